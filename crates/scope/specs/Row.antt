@@ -6,7 +6,7 @@ use mathlib.Core.List.{List, [], _∷_, _++_}
 use mathlib.Core.Option.{Option, none, some}
 use lib.Dec.{ltb, leb, eqb}
 use lib.ListN.{length, replicate}
-use Rattle.scope.specs.Bytes.{pick, bytesOf, numberAt}
+use Rattle.scope.specs.Bytes.{pick, bytesOf, numberAt, put}
 
 -- an entry, without its number: an update of a cell from old to new, or the end of a transaction
 pub data Entry : Type 0 where
@@ -41,3 +41,11 @@ isUpdate none = false
 abbrev pub isEntry : Option Entry → Bool
 isEntry (some e) = true
 isEntry none = false
+
+-- whether entry n can be written into a row, and the row then: a slice shorter than 32 bytes, number 0 and nothing are refused
+unfoldable pub isWritable : ℕ → Option Entry → List ℕ → Bool
+isWritable n e r = leb 32 (length r) && (ltb 0 n && isEntry e)
+
+unfoldable pub writeRow : ℕ → Option Entry → List ℕ → List ℕ
+writeRow n none r = r
+writeRow n (some e) r = pick (isWritable n (some e) r) (put r 0 (rowBytes n e)) r

@@ -1,0 +1,123 @@
+// A row of the journal, 32 bytes:
+//
+//   offset  bytes  field
+//        0      4  number, 1 to M
+//        4      1  kind: 1 update, 2 commit, 3 abort
+//        5      3  zero
+//        8      4  cell, below N; zero in a commit and an abort
+//       12      4  zero
+//       16      8  old value; zero in a commit and an abort
+//       24      8  new value; zero in a commit and an abort
+//
+// Only the answer of reading a row, the entry or nothing, says what a row means.
+ghost use mathlib.Core.Path.{_≡_};
+ghost use Prim.Native.Nat.{_+_, _*_, _<_, _≤_};
+ghost use lib.ListN.{length};
+ghost use Rattle.scope.specs.Row.{entryOf, readRow, isWritable, writeRow};
+ghost use Rattle.row.specs.Row.{meaning, isBare};
+
+// What a row reads as.
+pub enum Row {
+    Update { cell: u32, old: u64, new: u64 },
+    Commit,
+    Abort,
+    Nothing,
+}
+
+// Whether cell, old and new are zero, as in an end.
+fn bare(cell: u32, old: u64, new: u64) -> bool
+    ensures { λ r. ⌜ r ≡ isBare cell old new ⌝ }
+{
+    if cell != 0 {
+        return false;
+    }
+    if old != 0 {
+        return false;
+    }
+    new == 0
+}
+
+// An entry by its kind.
+fn of_kind(kind: u8, cell: u32, old: u64, new: u64) -> Row
+    ensures { λ r. ⌜ meaning r ≡ entryOf kind cell old new ⌝ }
+{
+    let end = bare(cell, old, new);
+    match kind {
+        1 => Row::Update { cell, old, new },
+        2 => {
+            if end {
+                return Row::Commit;
+            }
+            Row::Nothing
+        }
+        3 => {
+            if end {
+                return Row::Abort;
+            }
+            Row::Nothing
+        }
+        0 | 4..=255 => Row::Nothing,
+    }
+}
+
+// Reads the first 32 bytes of a slice as entry `number` of a table of `cells` cells. A shorter slice reads as nothing.
+// Costs the row's bytes, once.
+pub fn read_row(row: &[u8], cells: u32, number: u32) -> Row
+    ensures { λ r. ⌜ meaning r ≡ readRow cells number (now (row .entry)) ⌝ }
+{
+    if row.len() < 32 {
+        return Row::Nothing;
+    }
+    if number == 0 {
+        return Row::Nothing;
+    }
+    let found = number::get4(row, 0);
+    if found != number {
+        return Row::Nothing;
+    }
+    let kind = row[4];
+    let lead = number::get4(row, 4);
+    if lead != number::wide(kind) {
+        return Row::Nothing;
+    }
+    let cell = number::get4(row, 8);
+    if cells <= cell {
+        return Row::Nothing;
+    }
+    let gap = number::get4(row, 12);
+    if gap != 0 {
+        return Row::Nothing;
+    }
+    let old = number::get8(row, 16);
+    let new = number::get8(row, 24);
+    of_kind(kind, cell, old, new)
+}
+
+// Writes entry `number` into the first 32 bytes of a slice, and answers whether it did: a shorter slice, number 0 and
+// Row::Nothing are refused, and nothing is written. Costs the row's bytes, once.
+pub fn write_row(row: &mut [u8], number: u32, entry: Row) -> bool
+    ensures written { λ r. ⌜ r ≡ isWritable number (meaning entry) (now (row .entry)) ⌝ }
+    ensures bytes { λ _. ⌜ now (row .exit) ≡ writeRow number (meaning entry) (now (row .entry)) ⌝ }
+{
+    if row.len() < 32 {
+        return false;
+    }
+    if number == 0 {
+        return false;
+    }
+    match entry {
+        Row::Update { cell, old, new } => {
+            number::put_record(row, 0, number, 1, cell, 0, old, new);
+            true
+        }
+        Row::Commit => {
+            number::put_record(row, 0, number, 2, 0, 0, 0, 0);
+            true
+        }
+        Row::Abort => {
+            number::put_record(row, 0, number, 3, 0, 0, 0, 0);
+            true
+        }
+        Row::Nothing => false,
+    }
+}

@@ -1,0 +1,159 @@
+//! The medium. N is the number of cells, C the number of journal rows ("slots"); numbers are little-endian.
+//!
+//! | offset | bytes | what |
+//! |---|---|---|
+//! | 0 | 4 | N, 1 to 1,024 |
+//! | 4 | 4 | C, 4 to 1,024 |
+//! | 8 | 4 | h, the last entry number dropped |
+//! | 12 | 20 | zero |
+//! | 32 | 32 C | the rows; entry n, from 1 on, has row (n-1) mod C |
+//! | 32 + 32 C | 8 N | the table; a cell is part number (4), release major (2), minor (2) |
+//!
+//! | offset in a row | bytes | what |
+//! |---|---|---|
+//! | 0 | 4 | number |
+//! | 4 | 1 | kind: 1 update, 2 commit, 3 abort |
+//! | 5 | 3 | zero |
+//! | 8 | 4 | cell, zero for kinds 2 and 3 |
+//! | 12 | 4 | zero |
+//! | 16 | 8 | old value, zero for kinds 2 and 3 |
+//! | 24 | 8 | new value, zero for kinds 2 and 3 |
+//!
+//! The waiting rows, in memory, are placed as the rows on the medium.
+
+/// The largest entry number.
+pub const M: u32 = u32::MAX;
+pub const HEAD: usize = 32;
+pub const ROW: usize = 32;
+pub const CELL: usize = 8;
+pub const MOST_CELLS: u32 = 1024;
+pub const LEAST_SLOTS: u32 = 4;
+pub const MOST_SLOTS: u32 = 1024;
+/// The length of the largest medium.
+pub const LARGEST: usize = HEAD + ROW * MOST_SLOTS as usize + CELL * MOST_CELLS as usize;
+
+pub type Row = [u8; ROW];
+pub type Cell = [u8; CELL];
+
+pub fn sizes_in_rule(cells: u32, slots: u32) -> bool {
+    (1..=MOST_CELLS).contains(&cells) && (LEAST_SLOTS..=MOST_SLOTS).contains(&slots)
+}
+
+/// The medium's length for sizes in rule.
+pub fn medium_len(cells: u32, slots: u32) -> usize {
+    table_at(slots) + CELL * cells as usize
+}
+
+/// Where the table begins.
+pub fn table_at(slots: u32) -> usize {
+    HEAD + ROW * slots as usize
+}
+
+/// The slot of entry `number`, which is not 0.
+pub fn slot_of(number: u32, slots: u32) -> usize {
+    ((number - 1) % slots) as usize
+}
+
+/// The rows of a medium of the right length.
+pub fn rows(medium: &[u8], slots: u32) -> &[Row] {
+    medium[HEAD..table_at(slots)].as_chunks().0
+}
+
+/// The table of a medium of the right length.
+pub fn table(medium: &[u8], slots: u32) -> &[Cell] {
+    medium[table_at(slots)..].as_chunks().0
+}
+
+pub fn store_row(medium: &mut [u8], slot: usize, row: &Row) {
+    let at = HEAD + ROW * slot;
+    medium[at..at + ROW].copy_from_slice(row);
+}
+
+pub fn store_cell(medium: &mut [u8], slots: u32, cell: usize, value: u64) {
+    let at = table_at(slots) + CELL * cell;
+    medium[at..at + CELL].copy_from_slice(&value.to_le_bytes());
+}
+
+pub fn word4(bytes: &[u8], at: usize) -> u32 {
+    u32::from_le_bytes(bytes[at..at + 4].try_into().unwrap())
+}
+
+pub fn word8(bytes: &[u8], at: usize) -> u64 {
+    u64::from_le_bytes(bytes[at..at + 8].try_into().unwrap())
+}
+
+#[derive(Clone, Copy, Debug, PartialEq, Eq)]
+pub struct Head {
+    pub cells: u32,
+    pub slots: u32,
+    pub h: u32,
+}
+
+impl Head {
+    /// The head of a medium whose head is in rule and whose length is as it says.
+    pub fn of(medium: &[u8]) -> Option<Head> {
+        let bytes = medium.get(..HEAD)?;
+        let head = Head { cells: word4(bytes, 0), slots: word4(bytes, 4), h: word4(bytes, 8) };
+        let in_rule = sizes_in_rule(head.cells, head.slots)
+            && bytes[12..].iter().all(|&b| b == 0)
+            && medium.len() == medium_len(head.cells, head.slots);
+        in_rule.then_some(head)
+    }
+
+    /// Stores all 32 bytes.
+    pub fn store(self, medium: &mut [u8]) {
+        let mut bytes = [0; HEAD];
+        bytes[0..4].copy_from_slice(&self.cells.to_le_bytes());
+        bytes[4..8].copy_from_slice(&self.slots.to_le_bytes());
+        bytes[8..12].copy_from_slice(&self.h.to_le_bytes());
+        medium[..HEAD].copy_from_slice(&bytes);
+    }
+}
+
+/// What a row says.
+#[derive(Clone, Copy, Debug, PartialEq, Eq)]
+pub enum Entry {
+    Update { cell: u32, old: u64, new: u64 },
+    Commit,
+    Abort,
+}
+
+/// The number that a row holds, whatever the rest of it says.
+pub fn number_in(row: &Row) -> u32 {
+    word4(row, 0)
+}
+
+/// Reads the first 32 bytes as entry `number` of a medium with `cells` cells.
+pub fn read_row(row: &[u8], cells: u32, number: u32) -> Option<Entry> {
+    let row: &Row = row.first_chunk()?;
+    if number == 0 || number_in(row) != number {
+        return None;
+    }
+    // Kind and cell are read with the zero bytes after them.
+    let (kind, cell) = (word4(row, 4), word8(row, 8));
+    let (old, new) = (word8(row, 16), word8(row, 24));
+    if cell >= cells as u64 {
+        return None;
+    }
+    match kind {
+        1 => Some(Entry::Update { cell: cell as u32, old, new }),
+        2 | 3 if cell | old | new != 0 => None,
+        2 => Some(Entry::Commit),
+        3 => Some(Entry::Abort),
+        _ => None,
+    }
+}
+
+/// The row of entry `number`.
+pub fn write_row(row: &mut Row, number: u32, entry: Entry) {
+    let (kind, cell, old, new) = match entry {
+        Entry::Update { cell, old, new } => (1u32, cell, old, new),
+        Entry::Commit => (2, 0, 0, 0),
+        Entry::Abort => (3, 0, 0, 0),
+    };
+    row[0..4].copy_from_slice(&number.to_le_bytes());
+    row[4..8].copy_from_slice(&kind.to_le_bytes());
+    row[8..16].copy_from_slice(&(cell as u64).to_le_bytes());
+    row[16..24].copy_from_slice(&old.to_le_bytes());
+    row[24..32].copy_from_slice(&new.to_le_bytes());
+}

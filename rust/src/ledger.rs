@@ -1,0 +1,87 @@
+//! What the demands promise of a host's history, kept from the calls and answers alone, with no journal and no replay.
+//!
+//! While a history is clean (format once, then calls with proper buffers and power losses), every read answers as the
+//! handout's SequentialTr does, and at the end of each recovery the table is that of the committed transactions whose
+//! commit had been stored, in the order stored. The ledger checks both programs against the demands, not against each other.
+
+use crate::desk::{Answer, Call, Desk};
+use crate::keeper::STEP_HEAD;
+use crate::layout::table;
+use std::collections::VecDeque;
+
+type Writes = Vec<(usize, u64)>;
+
+pub struct Ledger {
+    /// The table of the stored transactions.
+    durable: Vec<u64>,
+    /// The table as the next read must see it, and as it was when the open transaction began.
+    now: Vec<u64>,
+    before: Vec<u64>,
+    open: Writes,
+    /// Commits made and not stored, by number.
+    made: VecDeque<(u64, Writes)>,
+    /// After power loss only recovery may be called.
+    up: bool,
+}
+
+impl Ledger {
+    /// After an accepted format.
+    pub fn new(cells: u32) -> Ledger {
+        let empty = vec![0; cells as usize];
+        Ledger {
+            durable: empty.clone(),
+            now: empty.clone(),
+            before: empty,
+            open: Vec::new(),
+            made: VecDeque::new(),
+            up: false,
+        }
+    }
+
+    pub fn lose_power(&mut self) {
+        self.open.clear();
+        self.made.clear();
+        self.up = false;
+    }
+
+    /// What an accepted call with proper buffers breaks, if anything.
+    pub fn note(&mut self, call: Call, answer: Answer, run: bool, desk: &Desk) -> Option<String> {
+        match call {
+            Call::RecoveryStart => self.lose_power(),
+            Call::RecoveryStep if answer.value >= STEP_HEAD => return self.recovered(desk),
+            Call::Begin if !run => self.before.clone_from(&self.now),
+            Call::Begin | Call::Abort if run => {
+                self.now.clone_from(&self.before);
+                self.open.clear();
+            }
+            Call::Read { cell } if answer.value != self.now[cell as usize] => {
+                return Some(format!("read answers {}, not {}", answer.value, self.now[cell as usize]));
+            }
+            Call::Write { cell, value } => {
+                self.now[cell as usize] = value;
+                self.open.push((cell as usize, value));
+            }
+            Call::Commit => self.made.push_back((answer.value, std::mem::take(&mut self.open))),
+            Call::Force => self.stored(answer.value),
+            _ => {}
+        }
+        None
+    }
+
+    fn stored(&mut self, number: u64) {
+        if self.made.front().is_some_and(|made| made.0 == number) {
+            let (_, writes) = self.made.pop_front().unwrap();
+            for (cell, value) in writes {
+                self.durable[cell] = value;
+            }
+        }
+    }
+
+    fn recovered(&mut self, desk: &Desk) -> Option<String> {
+        self.up = true;
+        self.now.clone_from(&self.durable);
+        let table = table(desk.lent_medium(), desk.slots);
+        let wrong = table.iter().zip(&self.durable).position(|(a, b)| u64::from_le_bytes(*a) != *b)?;
+        Some(format!("recovery ended with cell {wrong} not as the stored transactions say"))
+    }
+}

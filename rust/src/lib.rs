@@ -1,0 +1,29 @@
+//! The catalogue desk's second program: the keeper of the fitment table once more, in plain Rust, written from document 01.
+//!
+//! - `layout`: the medium byte for byte, the head and the rows.
+//! - `state`: the state and when it is sound.
+//! - `second`: every call with every refusal.
+//! - `fault`: the ways it has gone wrong, each to be switched on alone.
+//! - `keeper`: the calls in the shape of the C boundary, over the second program or the proved library.
+//! - `listing`: the listing's text.
+//! - `desk`, `event`, `draw`, `rng`, `directed`, `ledger`, `play`, `hits`: the comparison of two keepers.
+//! - `bench`, `plot`: the measurements and their drawing.
+
+pub mod bench;
+pub mod desk;
+pub mod directed;
+pub mod draw;
+pub mod event;
+pub mod fault;
+pub mod hits;
+pub mod keeper;
+pub mod layout;
+pub mod ledger;
+#[cfg(feature = "library")]
+pub mod library;
+pub mod listing;
+pub mod play;
+pub mod plot;
+pub mod rng;
+pub mod second;
+pub mod state;

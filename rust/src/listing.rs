@@ -1,0 +1,53 @@
+//! The listing's text: a medium is recovered in memory and its table printed as key=value lines.
+
+use crate::keeper::{Keeper, STEP_HEAD};
+use crate::layout::{word4, Head, CELL, LARGEST, ROW};
+use crate::state::NUMBERS;
+use std::fmt::Write;
+
+/// The image buffer is one byte longer than the largest medium, so that a longer one is noticed.
+pub const IMAGE: usize = LARGEST + 1;
+
+/// The listing of a medium, which is recovered where it stands.
+pub fn text(keeper: &dyn Keeper, medium: &mut [u8]) -> String {
+    match recover(keeper, medium) {
+        Ok(()) => lines(medium),
+        Err(refusal) => format!("refused={refusal}\n"),
+    }
+}
+
+fn recover(keeper: &dyn Keeper, medium: &mut [u8]) -> Result<(), u32> {
+    // Sizes that the keeper itself judges: those of the head, or of no medium.
+    let Head { cells, slots, .. } = Head::of(medium).unwrap_or(Head { cells: 0, slots: 0, h: 0 });
+    let (cells, slots) = (cells as usize, slots as usize);
+    let (mut current, mut first, mut last) = (vec![0; cells], vec![0; cells], vec![0; cells]);
+    let waiting = vec![0; ROW * slots];
+    let mut state = [0; NUMBERS];
+    refused(keeper.recovery_start(medium, &mut current, &mut first, &mut last, &waiting, &mut state))?;
+    let mut value = 0;
+    while value < STEP_HEAD {
+        refused(keeper.recovery_step(&mut state, medium, &current, &mut value))?;
+    }
+    Ok(())
+}
+
+fn refused(number: u32) -> Result<(), u32> {
+    if number == 0 { Ok(()) } else { Err(number) }
+}
+
+/// The lines of a recovered medium.
+fn lines(medium: &[u8]) -> String {
+    let (cells, slots, head) = (word4(medium, 0), word4(medium, 4), word4(medium, 8));
+    let mut text = format!("cells={cells}\nslots={slots}\nhead={head}\n");
+    let table = &medium[medium.len() - CELL * cells as usize..];
+    for (cell, bytes) in table.as_chunks::<CELL>().0.iter().enumerate() {
+        let &[a, b, c, d, major_low, major_high, minor_low, minor_high] = bytes;
+        let part = u32::from_le_bytes([a, b, c, d]);
+        let major = u16::from_le_bytes([major_low, major_high]);
+        let minor = u16::from_le_bytes([minor_low, minor_high]);
+        if (part, major, minor) != (0, 0, 0) {
+            writeln!(text, "cell={cell}\npart={part}\nrelease={major}.{minor}").unwrap();
+        }
+    }
+    text
+}
