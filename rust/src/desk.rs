@@ -4,6 +4,7 @@ use crate::keeper::Keeper;
 use crate::layout::{medium_len, ROW};
 use crate::rng::Rng;
 use crate::state::{State, NUMBERS};
+use std::fmt;
 
 #[derive(Clone, Copy, Debug, PartialEq, Eq)]
 pub enum Buffer {
@@ -17,15 +18,8 @@ pub enum Buffer {
     Row,
 }
 
-pub const BUFFERS: [Buffer; 7] = [
-    Buffer::Medium,
-    Buffer::Current,
-    Buffer::First,
-    Buffer::Last,
-    Buffer::Waiting,
-    Buffer::State,
-    Buffer::Row,
-];
+pub const BUFFERS: [Buffer; 7] =
+    [Buffer::Medium, Buffer::Current, Buffer::First, Buffer::Last, Buffer::Waiting, Buffer::State, Buffer::Row];
 
 /// Each buffer is this many elements longer than what is lent of it, so that a store past the end shows and a call can be
 /// lent too much.
@@ -71,6 +65,19 @@ pub struct Answer {
     pub fields: [u64; 4],
 }
 
+impl fmt::Display for Answer {
+    fn fmt(&self, out: &mut fmt::Formatter) -> fmt::Result {
+        write!(out, "answer {}", self.number)?;
+        if self.value != UNWRITTEN {
+            write!(out, " value {}", self.value)?;
+        }
+        if self.fields != [UNWRITTEN; 4] {
+            write!(out, " fields {:?}", self.fields)?;
+        }
+        Ok(())
+    }
+}
+
 /// What a value or a field is before the call, so that one left unwritten shows.
 const UNWRITTEN: u64 = 0xa5a5_a5a5_a5a5_a5a5;
 
@@ -105,6 +112,17 @@ impl Desk {
         self.first.fill_with(|| rng.below(40) as u32);
         self.last.fill_with(|| rng.below(40) as u32);
         self.state.fill_with(|| rng.next() as u32);
+    }
+
+    /// Becomes like a desk of the same sizes.
+    pub fn copy_from(&mut self, other: &Desk) {
+        self.medium.copy_from_slice(&other.medium);
+        self.current.copy_from_slice(&other.current);
+        self.first.copy_from_slice(&other.first);
+        self.last.copy_from_slice(&other.last);
+        self.waiting.copy_from_slice(&other.waiting);
+        self.state.copy_from_slice(&other.state);
+        self.row.copy_from_slice(&other.row);
     }
 
     /// How much of a buffer a call should be lent.

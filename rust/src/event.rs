@@ -7,17 +7,34 @@ use std::fmt;
 
 #[derive(Clone, Debug, PartialEq)]
 pub enum Event {
-    Call { call: Call, lend: Option<(Buffer, usize)> },
-    PowerLoss { rubbish: u64 },
+    Call {
+        call: Call,
+        lend: Option<(Buffer, usize)>,
+    },
+    PowerLoss {
+        rubbish: u64,
+    },
     /// The host hands this state instead of the one it was given.
     State([u32; NUMBERS]),
     /// A head in rule with this h.
-    Head { h: u32 },
+    Head {
+        h: u32,
+    },
     /// A row of the medium or of the waiting rows, or the row buffer.
-    Row { buffer: Buffer, slot: usize, row: Row },
-    Poke { buffer: Buffer, at: usize, value: u64 },
+    Row {
+        buffer: Buffer,
+        slot: usize,
+        row: Row,
+    },
+    Poke {
+        buffer: Buffer,
+        at: usize,
+        value: u64,
+    },
     /// The listing of a copy of the medium, all of it or its first bytes.
-    Listing { len: usize },
+    Listing {
+        len: usize,
+    },
 }
 
 impl Event {

@@ -35,49 +35,59 @@ pub const LARGEST: usize = HEAD + ROW * MOST_SLOTS as usize + CELL * MOST_CELLS 
 pub type Row = [u8; ROW];
 pub type Cell = [u8; CELL];
 
+#[inline]
 pub fn sizes_in_rule(cells: u32, slots: u32) -> bool {
     (1..=MOST_CELLS).contains(&cells) && (LEAST_SLOTS..=MOST_SLOTS).contains(&slots)
 }
 
 /// The medium's length for sizes in rule.
+#[inline]
 pub fn medium_len(cells: u32, slots: u32) -> usize {
     table_at(slots) + CELL * cells as usize
 }
 
 /// Where the table begins.
+#[inline]
 pub fn table_at(slots: u32) -> usize {
     HEAD + ROW * slots as usize
 }
 
 /// The slot of entry `number`, which is not 0.
+#[inline]
 pub fn slot_of(number: u32, slots: u32) -> usize {
     ((number - 1) % slots) as usize
 }
 
 /// The rows of a medium of the right length.
+#[inline]
 pub fn rows(medium: &[u8], slots: u32) -> &[Row] {
     medium[HEAD..table_at(slots)].as_chunks().0
 }
 
 /// The table of a medium of the right length.
+#[inline]
 pub fn table(medium: &[u8], slots: u32) -> &[Cell] {
     medium[table_at(slots)..].as_chunks().0
 }
 
+#[inline]
 pub fn store_row(medium: &mut [u8], slot: usize, row: &Row) {
     let at = HEAD + ROW * slot;
     medium[at..at + ROW].copy_from_slice(row);
 }
 
+#[inline]
 pub fn store_cell(medium: &mut [u8], slots: u32, cell: usize, value: u64) {
     let at = table_at(slots) + CELL * cell;
     medium[at..at + CELL].copy_from_slice(&value.to_le_bytes());
 }
 
+#[inline]
 pub fn word4(bytes: &[u8], at: usize) -> u32 {
     u32::from_le_bytes(bytes[at..at + 4].try_into().unwrap())
 }
 
+#[inline]
 pub fn word8(bytes: &[u8], at: usize) -> u64 {
     u64::from_le_bytes(bytes[at..at + 8].try_into().unwrap())
 }
@@ -91,16 +101,18 @@ pub struct Head {
 
 impl Head {
     /// The head of a medium whose head is in rule and whose length is as it says.
+    #[inline(always)]
     pub fn of(medium: &[u8]) -> Option<Head> {
         let bytes = medium.get(..HEAD)?;
         let head = Head { cells: word4(bytes, 0), slots: word4(bytes, 4), h: word4(bytes, 8) };
         let in_rule = sizes_in_rule(head.cells, head.slots)
-            && bytes[12..].iter().all(|&b| b == 0)
+            && bytes[12..] == [0; HEAD - 12]
             && medium.len() == medium_len(head.cells, head.slots);
         in_rule.then_some(head)
     }
 
     /// Stores all 32 bytes.
+    #[inline]
     pub fn store(self, medium: &mut [u8]) {
         let mut bytes = [0; HEAD];
         bytes[0..4].copy_from_slice(&self.cells.to_le_bytes());
@@ -119,11 +131,13 @@ pub enum Entry {
 }
 
 /// The number that a row holds, whatever the rest of it says.
+#[inline]
 pub fn number_in(row: &Row) -> u32 {
     word4(row, 0)
 }
 
 /// Reads the first 32 bytes as entry `number` of a medium with `cells` cells.
+#[inline(always)]
 pub fn read_row(row: &[u8], cells: u32, number: u32) -> Option<Entry> {
     let row: &Row = row.first_chunk()?;
     if number == 0 || number_in(row) != number {
@@ -145,6 +159,7 @@ pub fn read_row(row: &[u8], cells: u32, number: u32) -> Option<Entry> {
 }
 
 /// The row of entry `number`.
+#[inline]
 pub fn write_row(row: &mut Row, number: u32, entry: Entry) {
     let (kind, cell, old, new) = match entry {
         Entry::Update { cell, old, new } => (1u32, cell, old, new),

@@ -1,8 +1,9 @@
 //! What the demands promise of a host's history, kept from the calls and answers alone, with no journal and no replay.
 //!
-//! While a history is clean (format once, then calls with proper buffers and power losses), every read answers as the
-//! handout's SequentialTr does, and at the end of each recovery the table is that of the committed transactions whose
-//! commit had been stored, in the order stored. The ledger checks both programs against the demands, not against each other.
+//! While a history is clean (format once, then calls on the state and buffers that the one before left, and power losses),
+//! every read answers as the handout's SequentialTr does, and at the end of each recovery the table is that of exactly the
+//! transactions whose commit had been stored, in the order stored. So the ledger checks both programs against the demands,
+//! not only against each other.
 
 use crate::desk::{Answer, Call, Desk};
 use crate::keeper::STEP_HEAD;
@@ -20,8 +21,10 @@ pub struct Ledger {
     open: Writes,
     /// Commits made and not stored, by number.
     made: VecDeque<(u64, Writes)>,
-    /// After power loss only recovery may be called.
-    up: bool,
+    /// Whether recovery was started since the format or the last power loss; until then only that may be called.
+    started: bool,
+    /// Whether nothing was called since the format.
+    pub fresh: bool,
 }
 
 impl Ledger {
@@ -34,20 +37,30 @@ impl Ledger {
             before: empty,
             open: Vec::new(),
             made: VecDeque::new(),
-            up: false,
+            started: false,
+            fresh: true,
         }
     }
 
     pub fn lose_power(&mut self) {
         self.open.clear();
         self.made.clear();
-        self.up = false;
+        self.started = false;
     }
 
-    /// What an accepted call with proper buffers breaks, if anything.
+    /// Whether the history stays clean with this accepted call.
+    pub fn covers(&self, call: Call) -> bool {
+        self.started || matches!(call, Call::RecoveryStart | Call::TableView)
+    }
+
+    /// What an accepted call breaks, if anything. `run` says whether a transaction was open before it.
     pub fn note(&mut self, call: Call, answer: Answer, run: bool, desk: &Desk) -> Option<String> {
+        self.fresh = false;
         match call {
-            Call::RecoveryStart => self.lose_power(),
+            Call::RecoveryStart => {
+                self.lose_power();
+                self.started = true;
+            }
             Call::RecoveryStep if answer.value >= STEP_HEAD => return self.recovered(desk),
             Call::Begin if !run => self.before.clone_from(&self.now),
             Call::Begin | Call::Abort if run => {
@@ -55,7 +68,10 @@ impl Ledger {
                 self.open.clear();
             }
             Call::Read { cell } if answer.value != self.now[cell as usize] => {
-                return Some(format!("read answers {}, not {}", answer.value, self.now[cell as usize]));
+                return Some(format!(
+                    "read answers {}, the transactions say {}",
+                    answer.value, self.now[cell as usize]
+                ));
             }
             Call::Write { cell, value } => {
                 self.now[cell as usize] = value;
@@ -78,7 +94,6 @@ impl Ledger {
     }
 
     fn recovered(&mut self, desk: &Desk) -> Option<String> {
-        self.up = true;
         self.now.clone_from(&self.durable);
         let table = table(desk.lent_medium(), desk.slots);
         let wrong = table.iter().zip(&self.durable).position(|(a, b)| u64::from_le_bytes(*a) != *b)?;

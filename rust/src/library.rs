@@ -61,13 +61,7 @@ extern "C" {
         waiting: *mut u8,
         waiting_len: usize,
     ) -> u32;
-    fn keeper_commit(
-        state: *mut u32,
-        state_len: usize,
-        waiting: *mut u8,
-        waiting_len: usize,
-        value: *mut u64,
-    ) -> u32;
+    fn keeper_commit(state: *mut u32, state_len: usize, waiting: *mut u8, waiting_len: usize, value: *mut u64) -> u32;
     fn keeper_abort(
         state: *mut u32,
         state_len: usize,
@@ -131,15 +125,7 @@ extern "C" {
         fields: *mut u64,
         fields_len: usize,
     ) -> u32;
-    fn keeper_write_row(
-        row: *mut u8,
-        row_len: usize,
-        number: u32,
-        kind: u32,
-        cell: u32,
-        old: u64,
-        new: u64,
-    ) -> u32;
+    fn keeper_write_row(row: *mut u8, row_len: usize, number: u32, kind: u32, cell: u32, old: u64, new: u64) -> u32;
 }
 
 pub struct Library;

@@ -25,14 +25,22 @@ fn recover(keeper: &dyn Keeper, medium: &mut [u8]) -> Result<(), u32> {
     let mut state = [0; NUMBERS];
     refused(keeper.recovery_start(medium, &mut current, &mut first, &mut last, &waiting, &mut state))?;
     let mut value = 0;
-    while value < STEP_HEAD {
+    for _ in 0..=cells {
         refused(keeper.recovery_step(&mut state, medium, &current, &mut value))?;
+        if value >= STEP_HEAD {
+            return Ok(());
+        }
     }
-    Ok(())
+    // Each cell is stored once at most: no keeper comes here, but one that is wrong must not hold up a comparison.
+    Err(0)
 }
 
 fn refused(number: u32) -> Result<(), u32> {
-    if number == 0 { Ok(()) } else { Err(number) }
+    if number == 0 {
+        Ok(())
+    } else {
+        Err(number)
+    }
 }
 
 /// The lines of a recovered medium.

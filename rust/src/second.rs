@@ -3,6 +3,8 @@
 //! A call takes the state by value and hands back the next one, or refuses with a number and leaves every lent buffer
 //! untouched. Each call first judges the state and the length of all that it is lent. `FAULT` is a way to go wrong,
 //! `fault::NONE` for the sound program.
+//!
+//! The helpers that hold a state or workspaces are always inlined, so that neither goes through memory.
 
 use crate::fault;
 use crate::layout::*;
@@ -42,6 +44,7 @@ pub struct Work<'a> {
 }
 
 impl Work<'_> {
+    #[inline(always)]
     fn fits(&self, state: &State) -> bool {
         let cells = state.cells as usize;
         self.current.len() == cells
@@ -51,6 +54,7 @@ impl Work<'_> {
     }
 
     /// Makes `value` the cell's current one, by entry `number`.
+    #[inline(always)]
     fn set(&mut self, cell: u32, value: u64, number: u32) {
         let cell = cell as usize;
         self.current[cell] = value;
@@ -61,15 +65,18 @@ impl Work<'_> {
     }
 }
 
+#[inline]
 fn waiting_fits(state: &State, waiting: &[u8]) -> bool {
     waiting.len() == ROW * state.slots as usize
 }
 
+#[inline]
 fn medium_fits(state: &State, medium: &[u8]) -> bool {
     medium.len() == medium_len(state.cells, state.slots)
 }
 
 /// Refusals 1 and 10 of every call but recovery's. `fits` says whether the lent lengths are right for a sound state.
+#[inline(always)]
 fn judge(state: &State, fits: impl FnOnce() -> bool) -> Result<(), Refusal> {
     if !state.is_sound() || !fits() {
         return Err(OUT_OF_RULE);
@@ -80,15 +87,26 @@ fn judge(state: &State, fits: impl FnOnce() -> bool) -> Result<(), Refusal> {
     Ok(())
 }
 
+#[inline]
 fn judge_open(state: &State) -> Result<(), Refusal> {
-    if state.phase == Phase::Run { Ok(()) } else { Err(NOT_OPEN) }
+    if state.phase == Phase::Run {
+        Ok(())
+    } else {
+        Err(NOT_OPEN)
+    }
 }
 
+#[inline]
 fn judge_cell(state: &State, cell: u32) -> Result<(), Refusal> {
-    if cell < state.cells { Ok(()) } else { Err(NO_SUCH_CELL) }
+    if cell < state.cells {
+        Ok(())
+    } else {
+        Err(NO_SUCH_CELL)
+    }
 }
 
 /// Room and a number for one entry in run, with one more of each left for the transaction's end.
+#[inline]
 fn judge_room(state: &State) -> Result<(), Refusal> {
     if state.l - state.h > state.slots - 2 {
         return Err(NO_ROOM);
@@ -100,6 +118,7 @@ fn judge_room(state: &State) -> Result<(), Refusal> {
 }
 
 /// Whether the waiting rows hold the open transaction's updates.
+#[inline(always)]
 fn judge_updates(state: &State, waiting: &[u8]) -> Result<(), Refusal> {
     let rows = waiting.as_chunks().0;
     for number in state.o + 1..state.l + 1 {
@@ -112,6 +131,7 @@ fn judge_updates(state: &State, waiting: &[u8]) -> Result<(), Refusal> {
 }
 
 /// Hands each update of entries low+1 to high, in falling order, its cell and old value.
+#[inline(always)]
 fn undo<const FAULT: u8>(rows: &[Row], cells: u32, low: u32, high: u32, mut restore: impl FnMut(u32, u64)) {
     for k in 0..high - low {
         let number = if FAULT == fault::RISING_UNDO { low + 1 + k } else { high - k };
@@ -123,6 +143,7 @@ fn undo<const FAULT: u8>(rows: &[Row], cells: u32, low: u32, high: u32, mut rest
 }
 
 /// Builds entry l+1 in its waiting row.
+#[inline(always)]
 fn append(state: &mut State, waiting: &mut [u8], entry: Entry) {
     state.l += 1;
     let row = &mut waiting.as_chunks_mut().0[slot_of(state.l, state.slots)];
@@ -130,6 +151,7 @@ fn append(state: &mut State, waiting: &mut [u8], entry: Entry) {
 }
 
 /// Undoes the open transaction, whose updates were judged, and appends its abort.
+#[inline(always)]
 fn roll_back<const FAULT: u8>(mut state: State, work: Work) -> State {
     let Work { current, first, last, waiting } = work;
     let (low, high) = (state.o, state.l);
@@ -140,6 +162,7 @@ fn roll_back<const FAULT: u8>(mut state: State, work: Work) -> State {
     State { o: state.l, phase: Phase::Idle, ..state }
 }
 
+#[inline]
 pub fn format(medium: &mut [u8], cells: u32, slots: u32) -> Result<(), Refusal> {
     if !sizes_in_rule(cells, slots) || medium.len() != medium_len(cells, slots) {
         return Err(OUT_OF_RULE);
@@ -150,12 +173,14 @@ pub fn format(medium: &mut [u8], cells: u32, slots: u32) -> Result<(), Refusal> 
 }
 
 /// The rows of entries h+1 to e, in order, at most one turn of the journal.
+#[inline]
 pub fn turn(rows: &[Row], h: u32, e: u32) -> impl Iterator<Item = &Row> {
     let (before, from) = rows.split_at(h as usize % rows.len());
     from.iter().chain(before).take((e - h) as usize)
 }
 
 /// The last entry of the stored journal.
+#[inline]
 fn last_stored(rows: &[Row], head: &Head) -> Result<u32, Refusal> {
     let mut e = head.h;
     for row in turn(rows, head.h, M) {
@@ -171,6 +196,7 @@ fn last_stored(rows: &[Row], head: &Head) -> Result<u32, Refusal> {
 }
 
 /// Works entries h+1 to e into the current values, which are the table's.
+#[inline]
 fn replay<const FAULT: u8>(rows: &[Row], head: &Head, e: u32, current: &mut [u64]) {
     let (mut number, mut ended) = (head.h, head.h);
     for row in turn(rows, head.h, e) {
@@ -190,6 +216,7 @@ fn replay<const FAULT: u8>(rows: &[Row], head: &Head, e: u32, current: &mut [u64
 
 /// Reads the journal and works out the table that recovery's steps will store. The medium and the waiting rows are only
 /// looked at.
+#[inline]
 pub fn recovery_start<const FAULT: u8>(
     medium: &[u8],
     current: &mut [u64],
@@ -230,6 +257,7 @@ pub enum Step {
 }
 
 /// Stores the lowest cell that differs, else the head where an entry is left, else nothing.
+#[inline]
 pub fn recovery_step<const FAULT: u8>(
     state: State,
     medium: &mut [u8],
@@ -258,6 +286,7 @@ pub fn recovery_step<const FAULT: u8>(
 }
 
 /// Opens a transaction; one that is open is aborted first.
+#[inline]
 pub fn begin<const FAULT: u8>(state: State, work: Work) -> Result<State, Refusal> {
     judge(&state, || work.fits(&state))?;
     if state.phase == Phase::Run {
@@ -274,6 +303,7 @@ pub fn begin<const FAULT: u8>(state: State, work: Work) -> Result<State, Refusal
     Ok(State { phase: Phase::Run, ..state })
 }
 
+#[inline]
 pub fn read(state: State, cell: u32, current: &[u64]) -> Result<u64, Refusal> {
     judge(&state, || current.len() == state.cells as usize)?;
     judge_open(&state)?;
@@ -281,6 +311,7 @@ pub fn read(state: State, cell: u32, current: &[u64]) -> Result<u64, Refusal> {
     Ok(current[cell as usize])
 }
 
+#[inline]
 pub fn write(mut state: State, cell: u32, new: u64, mut work: Work) -> Result<State, Refusal> {
     judge(&state, || work.fits(&state))?;
     judge_open(&state)?;
@@ -293,6 +324,7 @@ pub fn write(mut state: State, cell: u32, new: u64, mut work: Work) -> Result<St
 }
 
 /// Answers the commit's number. It is durable once force has answered that number.
+#[inline]
 pub fn commit(mut state: State, waiting: &mut [u8]) -> Result<(State, u32), Refusal> {
     judge(&state, || waiting_fits(&state, waiting))?;
     judge_open(&state)?;
@@ -300,6 +332,7 @@ pub fn commit(mut state: State, waiting: &mut [u8]) -> Result<(State, u32), Refu
     Ok((State { o: state.l, phase: Phase::Idle, ..state }, state.l))
 }
 
+#[inline]
 pub fn abort<const FAULT: u8>(state: State, work: Work) -> Result<State, Refusal> {
     judge(&state, || work.fits(&state))?;
     if state.phase == Phase::Idle {
@@ -310,6 +343,7 @@ pub fn abort<const FAULT: u8>(state: State, work: Work) -> Result<State, Refusal
 }
 
 /// Stores the next entry and answers its number, or 0 where all are stored.
+#[inline]
 pub fn force(state: State, medium: &mut [u8], waiting: &[u8]) -> Result<(State, u32), Refusal> {
     judge(&state, || medium_fits(&state, medium) && waiting_fits(&state, waiting))?;
     if state.f == state.l {
@@ -326,6 +360,7 @@ pub fn force(state: State, medium: &mut [u8], waiting: &[u8]) -> Result<(State, 
 }
 
 /// Stores the cell's current value, if it changed since it was last stored; answers whether it did.
+#[inline]
 pub fn write_back<const FAULT: u8>(
     state: State,
     cell: u32,
@@ -351,6 +386,7 @@ pub fn write_back<const FAULT: u8>(
 }
 
 /// Drops the entries up to p.
+#[inline]
 pub fn cut<const FAULT: u8>(state: State, p: u32, medium: &mut [u8], first: &[u32]) -> Result<State, Refusal> {
     judge(&state, || medium_fits(&state, medium) && first.len() == state.cells as usize)?;
     if p < state.h || p > state.f || p > state.o {
@@ -377,6 +413,7 @@ pub enum Place {
     Waiting(usize),
 }
 
+#[inline]
 pub fn look(state: State, n: u32, medium: &[u8], waiting: &[u8]) -> Result<Place, Refusal> {
     judge(&state, || medium_fits(&state, medium) && waiting_fits(&state, waiting))?;
     if n <= state.h || n > state.l {
@@ -387,6 +424,7 @@ pub fn look(state: State, n: u32, medium: &[u8], waiting: &[u8]) -> Result<Place
 }
 
 /// Where the table begins; it is the rest of the medium.
+#[inline]
 pub fn table_view(medium: &[u8]) -> Result<usize, Refusal> {
     let head = Head::of(medium).ok_or(OUT_OF_RULE)?;
     Ok(table_at(head.slots))

@@ -29,6 +29,7 @@ pub const NUMBERS: usize = 7;
 
 impl State {
     /// A slice of another length, or whose phase is no phase, is no state.
+    #[inline]
     pub fn of(numbers: &[u32]) -> Option<State> {
         let &[cells, slots, h, f, l, o, phase] = numbers else {
             return None;
@@ -42,10 +43,12 @@ impl State {
         Some(State { cells, slots, h, f, l, o, phase })
     }
 
+    #[inline]
     pub fn numbers(self) -> [u32; NUMBERS] {
         [self.cells, self.slots, self.h, self.f, self.l, self.o, self.phase as u32]
     }
 
+    #[inline]
     pub fn is_sound(&self) -> bool {
         sizes_in_rule(self.cells, self.slots)
             && self.h <= self.f
@@ -53,9 +56,7 @@ impl State {
             && self.l - self.h <= self.slots
             && match self.phase {
                 Phase::Idle => self.o == self.l,
-                Phase::Run => {
-                    self.h <= self.o && self.o <= self.l && self.l - self.h < self.slots && self.l < M
-                }
+                Phase::Run => self.h <= self.o && self.o <= self.l && self.l - self.h < self.slots && self.l < M,
                 Phase::Recovering => self.f == self.l && self.o == self.l,
             }
     }

@@ -7,7 +7,9 @@ ghost use Rattle.scope.specs.Keeper.{headBytes, headOk, refusalOf, partOf};
 ghost use Rattle.scope.specs.Refusals.{Call, Format, refusal};
 ghost use Rattle.scope.specs.Calls.{format, tableView};
 ghost use Rattle.medium.specs.Lent.{onMedium};
-use crate::layout::{in_range, index, medium_length};
+use crate::layout::in_range;
+use crate::layout::index;
+use crate::layout::medium_length;
 
 // Whether the head and the length are in rule.
 pub fn head_ok(medium: &[u8]) -> bool
@@ -59,7 +61,11 @@ fn format_refusal(medium: &[u8], cells: u32, slots: u32) -> u32
     if ranged {} else {
         return 1;
     }
-    if medium.len() == medium_length(cells, slots) { 0 } else { 1 }
+    if medium.len() == medium_length(cells, slots) {
+        0
+    } else {
+        1
+    }
 }
 
 // Format: zeroes rows and table and stores the head with h = 0, and answers 0. Refuses with 1, N, C or length out of rule, and

@@ -5,13 +5,18 @@ use mathlib.Core.Option.{Option, none, some}
 use lib.Dec.{eqb}
 use Rattle.scope.specs.Row.{Entry, update, commitEntry, abortEntry}
 use Rattle.row.specs.declared.Row.{Row}
-use Rattle.row.specs.declared.Row.the-variants.{Update, Commit, Abort, Nothing}
+use Rattle.row.specs.declared.Row.the-variants.{Holds, Nothing}
+use Rattle.row.specs.declared.Entry as code
+use Rattle.row.specs.declared.Entry.the-variants.{Update, Commit, Abort}
+
+abbrev pub entry : code.Entry → Entry
+entry (Update cell old new) = update cell old new
+entry Commit = commitEntry
+entry Abort = abortEntry
 
 -- the entry, or nothing
 abbrev pub meaning : Row → Option Entry
-meaning (Update cell old new) = some (update cell old new)
-meaning Commit = some commitEntry
-meaning Abort = some abortEntry
+meaning (Holds e) = some (entry e)
 meaning Nothing = none
 
 -- cell, old and new are zero, as in an end

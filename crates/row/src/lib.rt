@@ -13,14 +13,20 @@
 ghost use mathlib.Core.Path.{_≡_};
 ghost use Prim.Native.Nat.{_+_, _*_, _<_, _≤_};
 ghost use lib.ListN.{length};
-ghost use Rattle.scope.specs.Row.{entryOf, readRow, isWritable, writeRow};
-ghost use Rattle.row.specs.Row.{meaning, isBare};
+ghost use Rattle.scope.specs.Bytes.{put};
+ghost use Rattle.scope.specs.Row.{rowBytes, entryOf, readRow, isWritable, writeRow};
+ghost use Rattle.row.specs.Row.{entry, meaning, isBare};
 
-// What a row reads as.
-pub enum Row {
+// An entry of the journal, without its number.
+pub enum Entry {
     Update { cell: u32, old: u64, new: u64 },
     Commit,
     Abort,
+}
+
+// What a row reads as: the entry, or nothing.
+pub enum Row {
+    Holds(Entry),
     Nothing,
 }
 
@@ -43,16 +49,16 @@ fn of_kind(kind: u8, cell: u32, old: u64, new: u64) -> Row
 {
     let end = bare(cell, old, new);
     match kind {
-        1 => Row::Update { cell, old, new },
+        1 => Row::Holds(Entry::Update { cell, old, new }),
         2 => {
             if end {
-                return Row::Commit;
+                return Row::Holds(Entry::Commit);
             }
             Row::Nothing
         }
         3 => {
             if end {
-                return Row::Abort;
+                return Row::Holds(Entry::Abort);
             }
             Row::Nothing
         }
@@ -93,11 +99,11 @@ pub fn read_row(row: &[u8], cells: u32, number: u32) -> Row
     of_kind(kind, cell, old, new)
 }
 
-// Writes entry `number` into the first 32 bytes of a slice, and answers whether it did: a shorter slice, number 0 and
-// Row::Nothing are refused, and nothing is written. Costs the row's bytes, once.
-pub fn write_row(row: &mut [u8], number: u32, entry: Row) -> bool
-    ensures written { λ r. ⌜ r ≡ isWritable number (meaning entry) (now (row .entry)) ⌝ }
-    ensures bytes { λ _. ⌜ now (row .exit) ≡ writeRow number (meaning entry) (now (row .entry)) ⌝ }
+// Writes entry `number` into the first 32 bytes of a slice, and answers whether it did: a shorter slice and number 0 are
+// refused, and nothing is written. Costs the row's bytes, once.
+pub fn write_row(row: &mut [u8], number: u32, what: Entry) -> bool
+    ensures written { λ r. ⌜ r ≡ isWritable number (now (row .entry)) ⌝ }
+    ensures bytes { λ _. ⌜ now (row .exit) ≡ writeRow number (entry what) (now (row .entry)) ⌝ }
 {
     if row.len() < 32 {
         return false;
@@ -105,19 +111,27 @@ pub fn write_row(row: &mut [u8], number: u32, entry: Row) -> bool
     if number == 0 {
         return false;
     }
-    match entry {
-        Row::Update { cell, old, new } => {
-            number::put_record(row, 0, number, 1, cell, 0, old, new);
-            true
-        }
-        Row::Commit => {
-            number::put_record(row, 0, number, 2, 0, 0, 0, 0);
-            true
-        }
-        Row::Abort => {
-            number::put_record(row, 0, number, 3, 0, 0, 0, 0);
-            true
-        }
-        Row::Nothing => false,
+    put_entry(row, 0, number, what);
+    true
+}
+
+// The 32 bytes of entry `number`, stored from a place on.
+pub fn put_entry(rows: &mut [u8], at: usize, number: u32, what: Entry)
+    requires { ⌜ at + 32 ≤ length (now rows) ⌝ }
+    ensures { λ _. ⌜ now (rows .exit) ≡ put (now (rows .entry)) at (rowBytes number (entry what)) ⌝ }
+{
+    match what {
+        Entry::Update { cell, old, new } => number::put_record(
+            rows,
+            at,
+            number,
+            1,
+            cell,
+            0,
+            old,
+            new,
+        ),
+        Entry::Commit => number::put_record(rows, at, number, 2, 0, 0, 0, 0),
+        Entry::Abort => number::put_record(rows, at, number, 3, 0, 0, 0, 0),
     }
 }

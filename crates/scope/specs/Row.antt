@@ -42,10 +42,9 @@ abbrev pub isEntry : Option Entry → Bool
 isEntry (some e) = true
 isEntry none = false
 
--- whether entry n can be written into a row, and the row then: a slice shorter than 32 bytes, number 0 and nothing are refused
-unfoldable pub isWritable : ℕ → Option Entry → List ℕ → Bool
-isWritable n e r = leb 32 (length r) && (ltb 0 n && isEntry e)
+-- whether entry n can be written into a row, and the row then: a slice shorter than 32 bytes and number 0 are refused
+unfoldable pub isWritable : ℕ → List ℕ → Bool
+isWritable n r = leb 32 (length r) && ltb 0 n
 
-unfoldable pub writeRow : ℕ → Option Entry → List ℕ → List ℕ
-writeRow n none r = r
-writeRow n (some e) r = pick (isWritable n (some e) r) (put r 0 (rowBytes n e)) r
+unfoldable pub writeRow : ℕ → Entry → List ℕ → List ℕ
+writeRow n e r = pick (isWritable n r) (put r 0 (rowBytes n e)) r

@@ -58,7 +58,7 @@ same-length c = search needs
 
 -- src/lib.rt:100:1
 returns : tie.Need-returns
-returns c = 
+returns c =
     let c₅ = c .before .before .before .before in
     let c₄ = c₅ .before .before .before .before in
     let c₃ = c₄ .before .before .before .before in

@@ -75,7 +75,7 @@ of-kind-requires c κs = search needs
 
 -- src/lib.rt:68:1
 returns-7 : tie.Need-returns-7
-returns-7 c = 
+returns-7 c =
     let d = c .before .before .before .before .before .before .before .before in
     row-read _ _ _ (omega arith) (omega arith) (omega arith) (d .wide .result) (omega arith) (omega arith) (omega arith) (omega arith) _
     (of-fields _ _ _ _ _ _ _ _ _ (c .of-kind .ensures) (omega arith) (omega arith) (omega arith) (omega arith))

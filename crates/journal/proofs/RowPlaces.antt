@@ -1,0 +1,60 @@
+-- The row of an entry: a row is four words, and a part of 32 bytes is where its place says.
+use Prim.Native.Nat.{ℕ, suc, _+_, _-_, _*_, _≤_, _<_}
+use mathlib.Core.Path.{_≡_, refl, sym, ap, _∙_}
+use mathlib.Core.List.{List, [], _∷_, _++_}
+use mathlib.Core.Option.{Option}
+use native.Mathlib.Nat.{zero-add}
+use native.Mathlib.Omega.{arith}
+use lib.ListN.{length, getD, take, drop, length-drop, length-append}
+use lib.Seq.{take-take, take-add, drop-drop, length-take-le}
+use Rattle.scope.specs.Bytes.{bytesOf, numberAt, numberOf, put}
+use Rattle.scope.specs.Row.{Entry, readRow}
+use Rattle.scope.specs.Keeper.{rowAt}
+use Rattle.scope.specs.Recovery.{rowsOf}
+use Rattle.scope.proofs.Bytes.{AllBytes, bytes-take, bytes-drop, bytesOf-numberOf, length-bytesOf}
+use Rattle.number.proofs.Numbers.{put-next}
+use Rattle.journal.specs.Entries.{entryIn}
+
+pub read-part : (rows : List ℕ) (base slots cells n row : ℕ) (e : Option Entry) → row ≡ rowAt slots n
+    → e ≡ readRow cells n (take (base + row + 32 - (base + row)) (drop (base + row) rows)) → e ≡ entryIn rows base slots cells n
+unfolding entryIn
+read-part rows base slots cells n row e p q = let k : base + row + 32 - (base + row) ≡ 32 = omega arith in q ∙ rw (k, p)
+
+pub number-part : (m : List ℕ) (slots n row x : ℕ) → row ≡ rowAt slots n → x ≡ numberAt 4 (32 + row) m → x ≡ numberAt 4 0 (rowsOf slots m n)
+unfolding numberAt
+number-part m slots n row x p q = q ∙ rw p (ap numberOf (sym (take-take 4 32 (drop (32 + rowAt slots n) m) (omega arith))))
+
+pub appended : (w w′ : List ℕ) (slots n row : ℕ) (v : List ℕ) → row ≡ rowAt slots n → w′ ≡ put w row v → w′ ≡ put w (rowAt slots n) v
+appended w w′ slots n row v p q = q ∙ rw p
+
+-- four words
+
+all-bytes : (w : List ℕ) → ((i : ℕ) → getD w i 0 < 256) → AllBytes w
+all-bytes [] h = tt
+all-bytes (b ∷ w) h = (h 0, all-bytes w (λ i. h (suc i)))
+
+module _ (w : List ℕ) (at : ℕ) (fits : at + 32 ≤ length w) (h : (i : ℕ) → getD w i 0 < 256) where
+  word : (j : ℕ) → j + 8 ≤ length w → bytesOf 8 (numberAt 8 j w) ≡ take 8 (drop j w)
+  unfolding numberAt
+  word j k =
+      let v = take 8 (drop j w) in
+      let e : length v ≡ 8 = length-take-le 8 (drop j w) (simp length-drop (omega arith)) in
+      ap (λ n. bytesOf n (numberOf v)) (sym e) ∙ bytesOf-numberOf v (bytes-take 8 (drop j w) (bytes-drop j w (all-bytes w h)))
+
+  words : take 32 (drop at w) ≡ bytesOf 8 (numberAt 8 at w) ++ bytesOf 8 (numberAt 8 (at + 8) w) ++ bytesOf 8 (numberAt 8 (at + 16) w) ++ bytesOf 8 (numberAt 8 (at + 24) w)
+  words =
+      take-add 24 8 (drop at w) ∙ ap (λ x. x ++ take 8 (drop 24 (drop at w))) (take-add 16 8 (drop at w) ∙ ap (λ x. x ++ take 8 (drop 16 (drop at w))) (take-add 8 8 (drop at w)))
+      ∙ rw (drop-drop 8 at w, drop-drop 16 at w, drop-drop 24 at w)
+      (sym (rw (word at (omega arith), word (at + 8) (omega arith), word (at + 16) (omega arith), word (at + 24) (omega arith))))
+
+  pub four-words : (m m₁ m₂ m₃ m₄ : List ℕ) (slots n : ℕ) (a b c d : ℕ) → at ≡ rowAt slots n → 32 + at + 32 ≤ length m → a ≡ numberAt 8 at w → b ≡ numberAt 8 (at + 8) w
+      → c ≡ numberAt 8 (at + 16) w → d ≡ numberAt 8 (at + 24) w → m₁ ≡ put m (at + 32) (bytesOf 8 a) → m₂ ≡ put m₁ (at + 40) (bytesOf 8 b)
+      → m₃ ≡ put m₂ (at + 48) (bytesOf 8 c) → m₄ ≡ put m₃ (at + 56) (bytesOf 8 d) → m₄ ≡ put m (32 + rowAt slots n) (take 32 (drop (rowAt slots n) w))
+  four-words m m₁ m₂ m₃ m₄ slots n a b c d r k ea eb ec ed p₁ p₂ p₃ p₄ =
+      let q₂ = p₂ ∙ put-next m m₁ (at + 32) (at + 40) (bytesOf 8 a) (bytesOf 8 b) p₁ (simp length-bytesOf (omega arith)) (simp length-bytesOf (omega arith)) in
+      let q₃ = p₃ ∙ put-next m m₂ (at + 32) (at + 48) (bytesOf 8 a ++ bytesOf 8 b) (bytesOf 8 c) q₂ (simp (length-append, length-bytesOf) (omega arith)) (simp length-bytesOf (omega arith)) in
+      let q₄ = p₄ ∙ put-next m m₃ (at + 32) (at + 56) (bytesOf 8 a ++ bytesOf 8 b ++ bytesOf 8 c) (bytesOf 8 d) q₃ (simp (length-append, length-bytesOf) (omega arith)) (simp length-bytesOf (omega arith)) in
+      let e : at + 32 ≡ 32 + rowAt slots n = omega arith in
+      let v : bytesOf 8 a ++ bytesOf 8 b ++ bytesOf 8 c ++ bytesOf 8 d ≡ take 32 (drop (rowAt slots n) w) =
+          rw (ea, eb, ec, ed) (sym words ∙ ap (λ j. take 32 (drop j w)) r) in
+      q₄ ∙ ap (λ j. put m j (bytesOf 8 a ++ bytesOf 8 b ++ bytesOf 8 c ++ bytesOf 8 d)) e ∙ ap (put m (32 + rowAt slots n)) v

@@ -1,0 +1,55 @@
+// The journal: the rows of a medium, from byte 32 on, or the waiting rows, from byte 0 on. Entry n has row (n-1) mod C.
+// The row of one entry is read, appended or stored.
+ghost use mathlib.Core.Path.{_≡_};
+ghost use Prim.Native.Nat.{_+_, _*_, _<_, _≤_};
+ghost use lib.ListN.{length, take, drop};
+ghost use Rattle.scope.specs.Bytes.{numberAt, put};
+ghost use Rattle.scope.specs.Row.{rowBytes};
+ghost use Rattle.scope.specs.Keeper.{rowAt};
+ghost use Rattle.scope.specs.Recovery.{rowsOf};
+ghost use Rattle.row.specs.Row.{entry, meaning};
+ghost use Rattle.journal.specs.Entries.{Rows, entryIn};
+use medium::layout::row_at;
+use row::{Entry, Row};
+
+// The row of entry n, of C rows that begin at a place, as that entry of a table of N cells.
+pub fn entry_at(rows: &[u8], base: usize, slots: u32, cells: u32, n: u32) -> Row
+    requires { ⌜ Rows (now rows) base slots n ⌝ }
+    ensures { λ r. ⌜ meaning r ≡ entryIn (now (rows .entry)) base slots cells n ⌝ }
+{
+    let at = base + row_at(slots, n);
+    let end = at + 32;
+    row::read_row(&rows[at..end], cells, n)
+}
+
+// The number that the row of entry n holds on a medium.
+pub fn number_at(medium: &[u8], slots: u32, n: u32) -> u32
+    requires { ⌜ Rows (now medium) 32 slots n ⌝ }
+    ensures { λ r. ⌜ r ≡ numberAt 4 0 (rowsOf slots (now (medium .entry)) n) ⌝ }
+{
+    number::get4(medium, 32 + row_at(slots, n))
+}
+
+// Entry n, built in its waiting row.
+pub fn append(waiting: &mut [u8], slots: u32, n: u32, what: Entry)
+    requires { ⌜ Rows (now waiting) 0 slots n ⌝ }
+    ensures { λ _. ⌜ now (waiting .exit) ≡ put (now (waiting .entry)) (rowAt slots n) (rowBytes n (entry what)) ⌝ }
+{
+    row::put_entry(waiting, row_at(slots, n), n, what);
+}
+
+// The waiting row of entry n, stored on the medium: four words.
+pub fn store_row(medium: &mut [u8], waiting: &[u8], slots: u32, n: u32)
+    requires { ⌜ (Rows (now medium) 32 slots n) × (Rows (now waiting) 0 slots n) ⌝ }
+    ensures { λ _. ⌜ now (medium .exit) ≡ put (now (medium .entry)) (32 + rowAt slots n) (take 32 (drop (rowAt slots n) (now (waiting .entry)))) ⌝ }
+{
+    let from = row_at(slots, n);
+    let a = number::get8(waiting, from);
+    let b = number::get8(waiting, from + 8);
+    let c = number::get8(waiting, from + 16);
+    let d = number::get8(waiting, from + 24);
+    number::put8(medium, from + 32, a);
+    number::put8(medium, from + 40, b);
+    number::put8(medium, from + 48, c);
+    number::put8(medium, from + 56, d);
+}

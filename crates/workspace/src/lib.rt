@@ -1,0 +1,123 @@
+// The workspaces that are lost at power loss: current values, `first` and `last`, and what the waiting rows of the open
+// transaction do to them when it is rolled back.
+ghost use mathlib.Core.Path.{_≡_};
+ghost use Prim.Native.Nat.{_-_, _<_, _≤_};
+ghost use lib.ListN.{length};
+ghost use Rattle.scope.specs.Row.{isUpdate};
+ghost use Rattle.scope.specs.Keeper.{firstMark};
+ghost use Rattle.scope.specs.Refusals.{anyFirst};
+ghost use Rattle.journal.specs.Entries.{Rows, entryIn};
+ghost use Rattle.workspace.specs.Desk.{desk, Fits, assigned, restored, rolledFrom, updatesFrom};
+use journal::entry_at;
+use medium::layout::index;
+use row::{Entry, Row};
+
+// A cell's `first` after entry n: set where it was 0.
+fn first_mark(old: u32, n: u32) -> u32
+    ensures { λ r. ⌜ r ≡ firstMark old n ⌝ }
+{
+    if old == 0 { n } else { old }
+}
+
+// The cell gets the value by entry n, which sets `last`, and `first` where it was 0.
+pub fn assign(current: &mut [u64], first: &mut [u32], last: &mut [u32], cell: u32, value: u64, n: u32)
+    requires { ⌜ (cell < length (now current)) × ((cell < length (now first)) × (cell < length (now last))) ⌝ }
+    ensures { λ _. ⌜ desk (now (current .exit)) (now (first .exit)) (now (last .exit)) ≡ assigned n cell value (desk (now (current .entry)) (now (first .entry)) (now (last .entry))) ⌝ }
+{
+    let at = index(cell);
+    current[at] = value;
+    first[at] = first_mark(first[at], n);
+    last[at] = n;
+}
+
+// The update of waiting row m restored, by entry n.
+fn restore(
+    waiting: &[u8],
+    slots: u32,
+    cells: u32,
+    m: u32,
+    n: u32,
+    current: &mut [u64],
+    first: &mut [u32],
+    last: &mut [u32],
+)
+    requires { ⌜ (Rows (now waiting) 0 slots m) × (Fits cells (now current) (now first) (now last)) ⌝ }
+    ensures { λ _. ⌜ desk (now (current .exit)) (now (first .exit)) (now (last .exit)) ≡ restored n (entryIn (now (waiting .entry)) 0 slots cells m) (desk (now (current .entry)) (now (first .entry)) (now (last .entry))) ⌝ }
+{
+    let Row::Holds(what) = entry_at(waiting, 0, slots, cells, m) else {
+        return;
+    };
+    let Entry::Update { cell, old, new: _ } = what else {
+        return;
+    };
+    assign(current, first, last, cell, old, n);
+}
+
+// The updates of waiting rows l, l - 1, .., o + 1 restored, in falling order, by entry n. Goes once over those rows.
+pub fn rollback(
+    waiting: &[u8],
+    slots: u32,
+    cells: u32,
+    o: u32,
+    l: u32,
+    n: u32,
+    current: &mut [u64],
+    first: &mut [u32],
+    last: &mut [u32],
+)
+    requires { ⌜ (Rows (now waiting) 0 slots 1) × (Fits cells (now current) (now first) (now last)) ⌝ }
+    ensures { λ _. ⌜ desk (now (current .exit)) (now (first .exit)) (now (last .exit)) ≡ rolledFrom (entryIn (now (waiting .entry)) 0 slots cells) n (l - o) l (desk (now (current .entry)) (now (first .entry)) (now (last .entry))) ⌝ }
+{
+    let mut m = l;
+    while o < m {
+        restore(waiting, slots, cells, m, n, current, first, last);
+        m -= 1;
+    }
+}
+
+// Whether waiting row m is that update.
+fn is_update(waiting: &[u8], slots: u32, cells: u32, m: u32) -> bool
+    requires { ⌜ Rows (now waiting) 0 slots m ⌝ }
+    ensures { λ r. ⌜ r ≡ isUpdate (entryIn (now (waiting .entry)) 0 slots cells m) ⌝ }
+{
+    let Row::Holds(what) = entry_at(waiting, 0, slots, cells, m) else {
+        return false;
+    };
+    let Entry::Update { cell: _, old: _, new: _ } = what else {
+        return false;
+    };
+    true
+}
+
+// Whether waiting rows l, l - 1, .., o + 1 are each that update. Goes once over those rows.
+pub fn all_updates(waiting: &[u8], slots: u32, cells: u32, o: u32, l: u32) -> bool
+    requires { ⌜ Rows (now waiting) 0 slots 1 ⌝ }
+    ensures { λ r. ⌜ r ≡ updatesFrom (entryIn (now (waiting .entry)) 0 slots cells) (l - o) l ⌝ }
+{
+    let mut m = l;
+    while o < m {
+        let good = is_update(waiting, slots, cells, m);
+        if good {} else {
+            return false;
+        }
+        m -= 1;
+    }
+    true
+}
+
+// Whether some cell has 0 < `first` <= p. Goes once over the cells.
+pub fn any_first(first: &[u32], p: u32) -> bool
+    ensures { λ r. ⌜ r ≡ anyFirst p (now (first .entry)) ⌝ }
+{
+    let mut i = 0;
+    while i < first.len() {
+        let mark = first[i];
+        if 0 < mark {
+            if mark <= p {
+                return true;
+            }
+        }
+        i += 1;
+    }
+    false
+}

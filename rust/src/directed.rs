@@ -1,0 +1,157 @@
+//! Directed histories: document 01's sessions, the largest sizes to their brim, and the last entry numbers.
+
+use crate::desk::{Buffer, Call};
+use crate::event::Event;
+use crate::layout::{slot_of, write_row, Entry, M, ROW};
+use crate::play::Opening;
+
+/// Part 40017 release 1.9.
+pub const A: u64 = 40017 | 1 << 32 | 9 << 48;
+/// Part 40052 release 1.10.
+pub const B: u64 = 40052 | 1 << 32 | 10 << 48;
+
+pub struct Directed {
+    pub name: &'static str,
+    pub opening: Opening,
+    pub events: Vec<Event>,
+}
+
+impl Directed {
+    /// A formatted medium, with h in its head, recovered.
+    fn new(name: &'static str, cells: u32, slots: u32, h: u32) -> Directed {
+        let opening = Opening { cells, slots, rubbish: 77 };
+        let events = vec![Event::call(Call::Format { cells, slots }), Event::Head { h }];
+        let mut directed = Directed { name, opening, events };
+        directed.recover(2);
+        directed
+    }
+
+    fn calls(&mut self, calls: impl IntoIterator<Item = Call>) -> &mut Directed {
+        self.events.extend(calls.into_iter().map(Event::call));
+        self
+    }
+
+    fn many(&mut self, times: usize, call: Call) -> &mut Directed {
+        self.calls(std::iter::repeat_n(call, times))
+    }
+
+    /// Power loss and recovery, in so many steps.
+    fn recover(&mut self, steps: usize) -> &mut Directed {
+        let len = crate::layout::medium_len(self.opening.cells, self.opening.slots);
+        self.events.push(Event::PowerLoss { rubbish: 5 });
+        self.events.push(Event::Listing { len });
+        self.calls([Call::RecoveryStart]).many(steps, Call::RecoveryStep)
+    }
+}
+
+pub fn all() -> Vec<Directed> {
+    vec![
+        sessions(),
+        labels(),
+        overwritten(),
+        brim(),
+        longest_abort(),
+        last_numbers(),
+        no_numbers(),
+        broken_row(),
+        other_sizes(),
+    ]
+}
+
+/// Cases 1 to 9 and 12, one after the other.
+fn sessions() -> Directed {
+    let mut d = Directed::new("the sessions of document 01", 2, 4, 0);
+    d.calls([Call::Read { cell: 0 }, Call::Abort, Call::Begin, Call::Write { cell: 0, value: A }]);
+    d.calls([Call::Write { cell: 1, value: B }, Call::Write { cell: 2, value: B }, Call::Read { cell: 2 }]);
+    d.recover(2).calls([Call::Begin, Call::Write { cell: 0, value: A }, Call::Commit]).many(3, Call::Force);
+    d.calls([
+        Call::Begin,
+        Call::Write { cell: 0, value: B },
+        Call::Write { cell: 0, value: B },
+        Call::Commit,
+        Call::Begin,
+    ]);
+    d.calls([Call::WriteBack { cell: 0 }, Call::Force, Call::WriteBack { cell: 0 }]);
+    d.recover(3).recover(2);
+    d.calls([Call::Begin, Call::Write { cell: 0, value: B }, Call::Commit]).many(2, Call::Force);
+    d.calls([Call::Cut { p: 4 }, Call::Cut { p: 5 }, Call::WriteBack { cell: 0 }]);
+    d.calls([3, 4, 5, 6].map(|p| Call::Cut { p })).calls([1, 4, 5, 6].map(|n| Call::Look { n }));
+    d
+}
+
+/// Release 1.10 after 1.9, both stored: the table must end with 1.10, whatever the labels are as text.
+fn labels() -> Directed {
+    let mut d = Directed::new("1.10 after 1.9", 2, 4, 0);
+    for value in [A, B] {
+        d.calls([Call::Begin, Call::Write { cell: 0, value }, Call::Commit]).many(2, Call::Force);
+    }
+    d.recover(2);
+    d
+}
+
+/// Case 10, and the same stored and recovered.
+fn overwritten() -> Directed {
+    let mut d = Directed::new("a cell written twice, aborted", 2, 4, 0);
+    let twice = [Call::Begin, Call::Write { cell: 0, value: A }, Call::Write { cell: 0, value: B }];
+    d.calls(twice).many(2, Call::Force).calls([Call::WriteBack { cell: 0 }, Call::Abort, Call::Force]);
+    d.calls([Call::Cut { p: 3 }, Call::WriteBack { cell: 0 }, Call::Cut { p: 2 }, Call::Cut { p: 3 }]);
+    d.calls(twice).many(2, Call::Force).calls([Call::WriteBack { cell: 0 }]).recover(3).recover(2);
+    d
+}
+
+/// Every row and every cell of the largest medium.
+fn brim() -> Directed {
+    let mut d = Directed::new("the largest medium, full", 1024, 1024, 1000);
+    d.calls([Call::Begin]).calls((0..1023).map(|cell| Call::Write { cell, value: A + cell as u64 }));
+    d.calls([Call::Write { cell: 0, value: B }, Call::Begin, Call::Commit, Call::Begin]);
+    d.many(1025, Call::Force).calls((0..1024).step_by(3).map(|cell| Call::WriteBack { cell }));
+    d.calls([Call::Cut { p: 2024 }]).recover(800).recover(2);
+    d
+}
+
+fn longest_abort() -> Directed {
+    let mut d = Directed::new("the longest abort", 3, 1024, 17);
+    d.calls([Call::Begin]).calls((0..1023).map(|k| Call::Write { cell: k % 3, value: k as u64 }));
+    d.many(1000, Call::Force).calls([0, 1, 2].map(|cell| Call::WriteBack { cell }));
+    d.calls([Call::Begin, Call::Abort, Call::Look { n: 1041 }]).many(30, Call::Force).recover(6).recover(2);
+    d
+}
+
+fn last_numbers() -> Directed {
+    let mut d = Directed::new("the last entry numbers", 2, 4, M - 5);
+    d.calls([Call::Begin, Call::Write { cell: 0, value: A }, Call::Begin]).many(2, Call::Force);
+    d.calls([Call::WriteBack { cell: 0 }, Call::Cut { p: M - 3 }, Call::Write { cell: 1, value: B }]);
+    d.calls([Call::Write { cell: 1, value: A }, Call::Write { cell: 1, value: A }, Call::Begin, Call::Commit]);
+    d.calls([Call::Begin]).many(4, Call::Force).calls([Call::Look { n: M }, Call::Cut { p: M }]);
+    d.calls([Call::WriteBack { cell: 0 }, Call::WriteBack { cell: 1 }, Call::Cut { p: M }, Call::Begin]).recover(2);
+    d
+}
+
+/// Case 13.
+fn no_numbers() -> Directed {
+    let mut d = Directed::new("h = M", 2, 4, M);
+    d.calls([Call::Begin, Call::Abort, Call::Force, Call::Cut { p: M }, Call::Look { n: M }, Call::Look { n: 0 }]);
+    d
+}
+
+/// Case 14: each kind and number in the row after the head.
+fn broken_row() -> Directed {
+    let mut d = Directed::new("the row of entry h+1", 2, 4, 6);
+    for kind in 0..=255 {
+        let mut row = [0; ROW];
+        write_row(&mut row, 7, Entry::Commit);
+        row[4] = kind;
+        d.events.push(Event::Row { buffer: Buffer::Medium, slot: slot_of(7, 4), row });
+        d.recover(2);
+    }
+    d.events.push(Event::Row { buffer: Buffer::Medium, slot: slot_of(7, 4), row: [0; ROW] });
+    d.recover(2);
+    d
+}
+
+/// Case 11.
+fn other_sizes() -> Directed {
+    let mut d = Directed::new("sizes out of rule", 2, 4, 0);
+    d.calls([(2, 3), (2, 1025), (0, 4), (1025, 4), (3, 4), (M, M)].map(|(cells, slots)| Call::Format { cells, slots }));
+    d
+}

@@ -1,0 +1,227 @@
+//! What a run has reached: every call with every refusal that the papers allow it, every kind of answer, and every lent
+//! buffer with a wrong length. A run that missed one has not compared what it was to compare.
+
+use crate::desk::Buffer::{self, Current, First, Last, Medium, Row, State as Numbers, Waiting};
+use crate::desk::{Answer, Call, Desk, BUFFERS};
+use crate::keeper::{STEP_CLEAN, STEP_HEAD};
+use crate::layout::{read_row, slot_of, Entry, HEAD, M, ROW};
+use crate::state::{Phase, State};
+use std::fmt::Write;
+
+/// A call's name, its allowed answers and the buffers it is lent.
+struct Line {
+    name: &'static str,
+    numbers: &'static [u32],
+    lent: &'static [Buffer],
+}
+
+const LINES: [Line; 15] = [
+    Line { name: "format", numbers: &[0, 1], lent: &[Medium] },
+    Line { name: "recovery start", numbers: &[0, 1, 2], lent: &[Medium, Current, First, Last, Waiting, Numbers] },
+    Line { name: "recovery step", numbers: &[0, 1, 10], lent: &[Medium, Current, Numbers] },
+    Line { name: "begin", numbers: &[0, 1, 5, 6, 7, 10], lent: &[Current, First, Last, Waiting, Numbers] },
+    Line { name: "read", numbers: &[0, 1, 3, 4, 10], lent: &[Current, Numbers] },
+    Line { name: "write", numbers: &[0, 1, 3, 4, 5, 6, 10], lent: &[Current, First, Last, Waiting, Numbers] },
+    Line { name: "commit", numbers: &[0, 1, 3, 10], lent: &[Waiting, Numbers] },
+    Line { name: "abort", numbers: &[0, 1, 7, 10], lent: &[Current, First, Last, Waiting, Numbers] },
+    Line { name: "force", numbers: &[0, 1, 7, 10], lent: &[Medium, Waiting, Numbers] },
+    Line { name: "write-back", numbers: &[0, 1, 4, 8, 10], lent: &[Medium, Current, First, Last, Numbers] },
+    Line { name: "cut", numbers: &[0, 1, 7, 9, 10], lent: &[Medium, First, Numbers] },
+    Line { name: "look", numbers: &[0, 1, 10, 11], lent: &[Medium, Waiting, Numbers] },
+    Line { name: "table view", numbers: &[0, 1], lent: &[Medium] },
+    Line { name: "read row", numbers: &[0, 1, 2, 3], lent: &[Row] },
+    Line { name: "write row", numbers: &[0, 1], lent: &[Row] },
+];
+
+/// Kinds of answer that one number doesn't tell apart.
+const CASES: [&str; 25] = [
+    "recovery step: a cell",
+    "recovery step: the head",
+    "recovery step: clean",
+    "begin in idle: 0",
+    "begin in idle: 5",
+    "begin in idle: 6",
+    "begin in run: 0",
+    "begin in run: 5",
+    "begin in run: 6",
+    "abort in idle: 0",
+    "abort in run: 0",
+    "force: an entry",
+    "force: nothing left",
+    "write-back: stored",
+    "write-back: clean",
+    "cut to h: 0",
+    "cut above h: 0",
+    "cut, p out of range: 9",
+    "cut, an update: 9",
+    "cut, a first: 9",
+    "look: in the medium",
+    "look: in the waiting rows",
+    "an entry M made or stored",
+    "an unsound state: 1",
+    "a phase that is none: 1",
+];
+
+const NUMBERS: usize = 12;
+
+pub struct Hits {
+    answers: [[u64; NUMBERS]; LINES.len()],
+    lengths: [[u64; BUFFERS.len()]; LINES.len()],
+    cases: [u64; CASES.len()],
+    odd: Vec<String>,
+}
+
+fn line_of(call: Call) -> usize {
+    match call {
+        Call::Format { .. } => 0,
+        Call::RecoveryStart => 1,
+        Call::RecoveryStep => 2,
+        Call::Begin => 3,
+        Call::Read { .. } => 4,
+        Call::Write { .. } => 5,
+        Call::Commit => 6,
+        Call::Abort => 7,
+        Call::Force => 8,
+        Call::WriteBack { .. } => 9,
+        Call::Cut { .. } => 10,
+        Call::Look { .. } => 11,
+        Call::TableView => 12,
+        Call::ReadRow { .. } => 13,
+        Call::WriteRow { .. } => 14,
+    }
+}
+
+impl Default for Hits {
+    fn default() -> Self {
+        Hits {
+            answers: [[0; NUMBERS]; LINES.len()],
+            lengths: [[0; BUFFERS.len()]; LINES.len()],
+            cases: [0; CASES.len()],
+            odd: Vec::new(),
+        }
+    }
+}
+
+/// What a call was made with: the state's numbers before it, and the sound state they are, if any.
+pub struct Made {
+    pub call: Call,
+    pub lend: Option<(Buffer, usize)>,
+    pub phase: u32,
+    pub state: Option<State>,
+}
+
+impl Hits {
+    /// Counts a call on a desk that it has been made on.
+    pub fn count(&mut self, made: &Made, answer: Answer, desk: &Desk) {
+        let at = line_of(made.call);
+        let line = &LINES[at];
+        if !line.numbers.contains(&answer.number) {
+            self.odd.push(format!("{} answered {}", made.call, answer.number));
+            return;
+        }
+        self.answers[at][answer.number as usize] += 1;
+        if let Some((buffer, len)) = made.lend {
+            let stateless = !line.lent.contains(&Numbers) || made.call == Call::RecoveryStart;
+            let wrong = len != desk.proper_len(buffer) && line.lent.contains(&buffer);
+            if wrong && (stateless || made.state.is_some()) {
+                self.lengths[at][buffer as usize] += 1;
+            }
+        }
+        if let Some(name) = case_of(made, answer, desk) {
+            let case = CASES.iter().position(|&case| case == name).unwrap();
+            self.cases[case] += 1;
+        }
+    }
+
+    /// The pairs, lengths and cases never reached, and the answers that are not allowed.
+    pub fn missed(&self) -> Vec<String> {
+        let mut missed = self.odd.clone();
+        for (at, line) in LINES.iter().enumerate() {
+            let numbers = line.numbers.iter().filter(|&&number| self.answers[at][number as usize] == 0);
+            missed.extend(numbers.map(|number| format!("{}: {number}", line.name)));
+            let lent = line.lent.iter().filter(|&&buffer| self.lengths[at][buffer as usize] == 0);
+            missed.extend(lent.map(|buffer| format!("{} lent a wrong length of {buffer:?}", line.name)));
+        }
+        let cases = CASES.iter().zip(&self.cases).filter(|(_, count)| **count == 0);
+        missed.extend(cases.map(|(name, _)| name.to_string()));
+        missed
+    }
+
+    pub fn table(&self) -> String {
+        let mut text = format!("{:16}", "call \\ answer");
+        (0..NUMBERS).for_each(|number| write!(text, "{number:>9}").unwrap());
+        for (at, line) in LINES.iter().enumerate() {
+            write!(text, "\n{:16}", line.name).unwrap();
+            for number in 0..NUMBERS {
+                if line.numbers.contains(&(number as u32)) {
+                    write!(text, "{:>9}", self.answers[at][number]).unwrap();
+                } else {
+                    write!(text, "{:>9}", ".").unwrap();
+                }
+            }
+        }
+        write!(text, "\n\n{:16}", "wrong length").unwrap();
+        BUFFERS.iter().for_each(|buffer| write!(text, "{:>9}", format!("{buffer:?}")).unwrap());
+        for (at, line) in LINES.iter().enumerate() {
+            write!(text, "\n{:16}", line.name).unwrap();
+            for buffer in BUFFERS {
+                if line.lent.contains(&buffer) {
+                    write!(text, "{:>9}", self.lengths[at][buffer as usize]).unwrap();
+                } else {
+                    write!(text, "{:>9}", ".").unwrap();
+                }
+            }
+        }
+        text.push_str("\n\n");
+        for (name, count) in CASES.iter().zip(&self.cases) {
+            writeln!(text, "{name:32}{count:>9}").unwrap();
+        }
+        text
+    }
+}
+
+/// Which of `CASES` a call is, if any.
+fn case_of(made: &Made, answer: Answer, desk: &Desk) -> Option<&'static str> {
+    if takes_state(made.call) && made.lend.is_none() && made.state.is_none() {
+        return Some(if made.phase > 2 { "a phase that is none: 1" } else { "an unsound state: 1" });
+    }
+    let state = made.state?;
+    let run = state.phase == Phase::Run;
+    match (made.call, answer.number) {
+        (Call::RecoveryStep, 0) => Some(match answer.value {
+            STEP_CLEAN => "recovery step: clean",
+            STEP_HEAD => "recovery step: the head",
+            _ => "recovery step: a cell",
+        }),
+        (Call::Begin, 0) => Some(if run { "begin in run: 0" } else { "begin in idle: 0" }),
+        (Call::Begin, 5) => Some(if run { "begin in run: 5" } else { "begin in idle: 5" }),
+        (Call::Begin, 6) => Some(if run { "begin in run: 6" } else { "begin in idle: 6" }),
+        (Call::Abort, 0) => Some(if run { "abort in run: 0" } else { "abort in idle: 0" }),
+        (Call::Commit | Call::Force, 0) if answer.value == M as u64 => Some("an entry M made or stored"),
+        (Call::Force, 0) => Some(if answer.value == 0 { "force: nothing left" } else { "force: an entry" }),
+        (Call::WriteBack { .. }, 0) => Some(if answer.value == 0 { "write-back: clean" } else { "write-back: stored" }),
+        (Call::Cut { p }, 0) => Some(if p == state.h { "cut to h: 0" } else { "cut above h: 0" }),
+        (Call::Cut { p }, 9) => Some(why_no_cut(&state, p, desk)),
+        (Call::Look { n }, 0) => Some(if n <= state.f { "look: in the medium" } else { "look: in the waiting rows" }),
+        _ => None,
+    }
+}
+
+fn takes_state(call: Call) -> bool {
+    LINES[line_of(call)].lent.contains(&Numbers) && call != Call::RecoveryStart
+}
+
+fn why_no_cut(state: &State, p: u32, desk: &Desk) -> &'static str {
+    if p < state.h || p > state.f || p > state.o {
+        return "cut, p out of range: 9";
+    }
+    let update = p != state.h && {
+        let row = &desk.medium[HEAD + ROW * slot_of(p, state.slots)..];
+        matches!(read_row(row, state.cells, p), Some(Entry::Update { .. }))
+    };
+    if update {
+        "cut, an update: 9"
+    } else {
+        "cut, a first: 9"
+    }
+}
