@@ -92,7 +92,7 @@ fn entry(rng: &mut Rng, k: u32, cells: u32) -> Entry {
 }
 
 fn update(rng: &mut Rng, cells: u32) -> Entry {
-    Entry::Update { cell: rng.between(0, cells - 1), old: rng.next(), new: rng.next() }
+    Entry::Update { cell: rng.between(0, cells - 1), old: rng.word(), new: rng.word() }
 }
 
 impl Rig {
@@ -124,7 +124,7 @@ impl Rig {
         }
         write_row(&mut rig.row, 7, update(&mut rng, cells));
         if op == Op::Cut {
-            write_row(&mut row_mut(&mut rig.medium, slot_of(h + 1, slots)), h + 1, Entry::Commit);
+            write_row(row_mut(&mut rig.medium, slot_of(h + 1, slots)), h + 1, Entry::Commit);
         }
         rig
     }

@@ -107,11 +107,11 @@ impl Desk {
     pub fn lose_power(&mut self, rubbish: u64) {
         let mut rng = Rng::new(!rubbish);
         fill(&mut rng, &mut self.waiting);
-        self.current.fill_with(|| rng.next());
+        self.current.fill_with(|| rng.word());
         // Small numbers are the treacherous ones: they look like entries.
         self.first.fill_with(|| rng.below(40) as u32);
         self.last.fill_with(|| rng.below(40) as u32);
-        self.state.fill_with(|| rng.next() as u32);
+        self.state.fill_with(|| rng.word() as u32);
     }
 
     /// Becomes like a desk of the same sizes.
@@ -223,7 +223,7 @@ impl Desk {
 
 fn fill(rng: &mut Rng, bytes: &mut [u8]) {
     for chunk in bytes.chunks_mut(8) {
-        let word = rng.next().to_le_bytes();
+        let word = rng.word().to_le_bytes();
         chunk.copy_from_slice(&word[..chunk.len()]);
     }
 }

@@ -60,7 +60,7 @@ impl Draw {
             9..=64 => 900,
             _ => 9000,
         };
-        let opening = Opening { cells, slots, rubbish: if rng.percent(50) { 0 } else { rng.next() } };
+        let opening = Opening { cells, slots, rubbish: if rng.percent(50) { 0 } else { rng.word() } };
         let hot = (0..1 + rng.below(6)).map(|_| rng.between(0, cells - 1)).collect();
         let left = 20 + rng.index(most);
         let mut draw = Draw { rng, plan, mood: Mood::Even, opening, hot, queue: VecDeque::new(), left, endings: 0 };
@@ -112,7 +112,7 @@ impl Draw {
         let len = if self.endings == 1 { whole } else { self.rng.index(whole) };
         self.queue.push_back(Event::Listing { len });
         self.queue.push_back(Event::call(Call::RecoveryStart));
-        (self.endings <= 2).then(|| Event::PowerLoss { rubbish: self.rng.next() })
+        (self.endings <= 2).then(|| Event::PowerLoss { rubbish: self.rng.word() })
     }
 
     fn host(&mut self, desk: &Desk) -> Event {
@@ -123,7 +123,7 @@ impl Draw {
             return Event::call(self.without_state(desk));
         };
         if self.rng.below(60 + desk.slots as u64) == 0 {
-            return Event::PowerLoss { rubbish: self.rng.next() };
+            return Event::PowerLoss { rubbish: self.rng.word() };
         }
         let call = match state.phase {
             Phase::Recovering => Call::RecoveryStep,
@@ -229,7 +229,7 @@ impl Draw {
             4 => Call::Format { cells: cells + 4, slots: slots - 1 },
             5 => Call::Format { cells: cells.saturating_sub(4), slots: slots + 1 },
             6 => Call::Format { cells: slots, slots: cells },
-            _ => Call::Format { cells: self.rng.next() as u32, slots: self.rng.next() as u32 },
+            _ => Call::Format { cells: self.rng.word() as u32, slots: self.rng.word() as u32 },
         }
     }
 
@@ -262,7 +262,7 @@ impl Draw {
         let empty = self.rng.percent(50);
         let cell = if empty { 0 } else { self.rng.pick(&[0, 1, desk.cells, M]) };
         let old = if empty { 0 } else { self.rng.pick(&[0, 1, u64::MAX]) };
-        let new = if empty { 0 } else { self.rng.next() };
+        let new = if empty { 0 } else { self.rng.word() };
         Event::Call { call: Call::WriteRow { number, kind, cell, old, new }, lend }
     }
 
@@ -282,7 +282,7 @@ impl Draw {
             0..14 => self.cell(desk),
             14..17 => desk.cells,
             17..19 => desk.cells + self.rng.below(40) as u32,
-            _ => self.rng.next() as u32,
+            _ => self.rng.word() as u32,
         }
     }
 
@@ -300,7 +300,7 @@ impl Draw {
     fn value(&mut self, desk: &Desk, cell: u32) -> u64 {
         match self.rng.below(20) {
             0 => 0,
-            1 => self.rng.next(),
+            1 => self.rng.word(),
             2..4 if cell < desk.cells => desk.current[cell as usize],
             _ => self.part(),
         }
@@ -332,7 +332,7 @@ impl Draw {
             if p <= state.h {
                 return state.h;
             }
-            let row = &desk.medium[HEAD + ROW * slot_of(p, state.slots)..];
+            let row = &desk.medium[HEAD + ROW * slot_of(p, desk.slots)..];
             if !matches!(read_row(row, state.cells, p), Some(Entry::Update { .. })) {
                 return p;
             }
@@ -406,7 +406,7 @@ impl Draw {
             let row = self.row(h + k + 1, cells, flawed);
             self.queue.push_back(Event::Row { buffer: Buffer::Medium, slot: slot_of(h + k + 1, slots), row });
         }
-        self.queue.push_back(Event::PowerLoss { rubbish: self.rng.next() });
+        self.queue.push_back(Event::PowerLoss { rubbish: self.rng.word() });
     }
 
     fn damage(&mut self, desk: &Desk) -> Event {
@@ -427,7 +427,7 @@ impl Draw {
             8 if self.rng.percent(30) => self.damaged_head(desk),
             _ => match state {
                 Some(state) => Event::State(self.near_state(state)),
-                None => Event::PowerLoss { rubbish: self.rng.next() },
+                None => Event::PowerLoss { rubbish: self.rng.word() },
             },
         }
     }

@@ -1,12 +1,13 @@
 //! What the demands promise of a host's history, kept from the calls and answers alone, with no journal and no replay.
 //!
 //! While a history is clean (format once, then calls on the state and buffers that the one before left, and power losses),
-//! every read answers as the handout's SequentialTr does, and at the end of each recovery the table is that of exactly the
-//! transactions whose commit had been stored, in the order stored. So the ledger checks both programs against the demands,
+//! every read answers as the handout's SequentialTr does; at the end of each recovery the table is that of exactly the
+//! transactions whose commit had been stored, in the order stored; no step stores another value than that table's; and run
+//! again at once, recovery stores nothing. So the ledger checks both programs against the demands,
 //! not only against each other.
 
 use crate::desk::{Answer, Call, Desk};
-use crate::keeper::STEP_HEAD;
+use crate::keeper::{STEP_CLEAN, STEP_HEAD};
 use crate::layout::table;
 use std::collections::VecDeque;
 
@@ -25,6 +26,8 @@ pub struct Ledger {
     started: bool,
     /// Whether nothing was called since the format.
     pub fresh: bool,
+    /// Whether a recovery has ended and nothing was changed since.
+    settled: bool,
 }
 
 impl Ledger {
@@ -39,6 +42,7 @@ impl Ledger {
             made: VecDeque::new(),
             started: false,
             fresh: true,
+            settled: false,
         }
     }
 
@@ -61,7 +65,8 @@ impl Ledger {
                 self.lose_power();
                 self.started = true;
             }
-            Call::RecoveryStep if answer.value >= STEP_HEAD => return self.recovered(desk),
+            Call::RecoveryStep => return self.stepped(answer.value, desk),
+            Call::TableView | Call::Look { .. } => return None,
             Call::Begin if !run => self.before.clone_from(&self.now),
             Call::Begin | Call::Abort if run => {
                 self.now.clone_from(&self.before);
@@ -81,6 +86,7 @@ impl Ledger {
             Call::Force => self.stored(answer.value),
             _ => {}
         }
+        self.settled &= call == Call::RecoveryStart;
         None
     }
 
@@ -93,10 +99,19 @@ impl Ledger {
         }
     }
 
-    fn recovered(&mut self, desk: &Desk) -> Option<String> {
-        self.now.clone_from(&self.durable);
+    fn stepped(&mut self, value: u64, desk: &Desk) -> Option<String> {
         let table = table(desk.lent_medium(), desk.slots);
-        let wrong = table.iter().zip(&self.durable).position(|(a, b)| u64::from_le_bytes(*a) != *b)?;
-        Some(format!("recovery ended with cell {wrong} not as the stored transactions say"))
+        let differs = |cell: usize| u64::from_le_bytes(table[cell]) != self.durable[cell];
+        if self.settled && value != STEP_CLEAN {
+            return Some("recovery run again at once stored something".to_string());
+        }
+        if value < STEP_HEAD {
+            let wrong = differs(value as usize);
+            return wrong.then(|| format!("recovery stored a value in cell {value} that no stored transaction left"));
+        }
+        let wrong = (0..table.len()).find(|&cell| differs(cell));
+        self.now.clone_from(&self.durable);
+        self.settled = true;
+        wrong.map(|cell| format!("recovery ended with cell {cell} not as the stored transactions say"))
     }
 }

@@ -17,9 +17,6 @@ const LEFT: f64 = 62.0;
 const TOP: f64 = 104.0;
 /// What a panel leaves free around its axes.
 const INSET: [f64; 4] = [10.0, 28.0, 22.0, 26.0];
-/// The decades of nanoseconds that the axis spans.
-const LOW: f64 = 0.0;
-const HIGH: f64 = 5.0;
 const CELLS: &str = "#1f6fb2";
 const SLOTS: &str = "#c4512d";
 
@@ -28,6 +25,8 @@ struct Axes {
     x: f64,
     y: f64,
     sizes: Vec<u32>,
+    /// How many decades of nanoseconds the axis spans, from 1 on.
+    decades: i32,
 }
 
 impl Axes {
@@ -38,7 +37,7 @@ impl Axes {
     }
 
     fn at_time(&self, ns: f64) -> f64 {
-        let share = (ns.max(1.0).log10() - LOW) / (HIGH - LOW);
+        let share = ns.max(1.0).log10() / self.decades as f64;
         self.y + HEIGHT - INSET[3] - share * (HEIGHT - INSET[1] - INSET[3])
     }
 }
@@ -54,12 +53,14 @@ pub fn svg(panels: &[Panel], sizes: &[u32], fixed: u32, title: &str, note: &str)
     text(&mut out, LEFT, 24.0, "font-size=\"16\"", title);
     text(&mut out, LEFT, 42.0, "fill=\"#555\"", note);
     legend(&mut out, fixed);
+    let decades = decades(panels);
     for (k, panel) in panels.iter().enumerate() {
         let (x, y) = (LEFT + (k % COLUMNS) as f64 * WIDTH, TOP + (k / COLUMNS) as f64 * HEIGHT);
-        let axes = Axes { x, y, sizes: sizes.to_vec() };
+        let axes = Axes { x, y, sizes: sizes.to_vec(), decades };
         frame(&mut out, &axes, panel.name, k % COLUMNS == 0);
         for (list, colour) in [(&panel.by_cells, CELLS), (&panel.by_slots, SLOTS)] {
             line(&mut out, &axes, list.iter().map(|m| m.library), colour, "");
+            points(&mut out, &axes, list, colour);
             line(&mut out, &axes, list.iter().map(|m| m.plain), colour, "stroke-dasharray=\"4 3\"");
         }
     }
@@ -75,6 +76,12 @@ pub fn svg(panels: &[Panel], sizes: &[u32], fixed: u32, title: &str, note: &str)
     );
     out.push_str("</svg>\n");
     out
+}
+
+fn decades(panels: &[Panel]) -> i32 {
+    let all = panels.iter().flat_map(|panel| panel.by_cells.iter().chain(&panel.by_slots));
+    let most = all.fold(10.0, |most: f64, measured| most.max(measured.library).max(measured.plain));
+    most.log10().ceil() as i32
 }
 
 fn text(out: &mut String, x: f64, y: f64, style: &str, words: &str) {
@@ -102,20 +109,27 @@ fn legend(out: &mut String, fixed: u32) {
 
 fn frame(out: &mut String, axes: &Axes, name: &str, labelled: bool) {
     let (left, right) = (axes.x + INSET[0], axes.x + WIDTH - INSET[2]);
-    for decade in LOW as i32..=HIGH as i32 {
+    let top = axes.at_time(10f64.powi(axes.decades));
+    for decade in 0..=axes.decades {
         let y = axes.at_time(10f64.powi(decade));
         stroke(out, [left, y, right, y], "stroke=\"#ddd\"");
         if labelled {
-            let label = ["1", "10", "100", "1,000", "10,000", "100,000"][decade as usize];
-            text(out, left - 6.0, y + 4.0, "text-anchor=\"end\" fill=\"#555\"", label);
+            text(out, left - 6.0, y + 4.0, "text-anchor=\"end\" fill=\"#555\"", &10u64.pow(decade as u32).to_string());
         }
     }
     for &size in &axes.sizes {
         let x = axes.at_size(size);
-        stroke(out, [x, axes.at_time(1e5), x, axes.at_time(1.0)], "stroke=\"#eee\"");
+        stroke(out, [x, top, x, axes.at_time(1.0)], "stroke=\"#eee\"");
         text(out, x, axes.at_time(1.0) + 14.0, "text-anchor=\"middle\" fill=\"#555\"", &size.to_string());
     }
     text(out, left, axes.y + INSET[1] - 8.0, "font-weight=\"bold\"", name);
+}
+
+fn points(out: &mut String, axes: &Axes, list: &[Measured], colour: &str) {
+    for (&size, measured) in axes.sizes.iter().zip(list) {
+        let (x, y) = (axes.at_size(size), axes.at_time(measured.library));
+        writeln!(out, "<circle cx=\"{x:.1}\" cy=\"{y:.1}\" r=\"2.4\" fill=\"{colour}\"/>").unwrap();
+    }
 }
 
 fn line(out: &mut String, axes: &Axes, times: impl Iterator<Item = f64>, colour: &str, dash: &str) {

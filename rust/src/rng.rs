@@ -9,10 +9,10 @@ impl Rng {
 
     /// The source of run `k` under a seed.
     pub fn of_run(seed: u64, k: u64) -> Rng {
-        Rng(Rng(seed).next() ^ k.wrapping_mul(0xd1b5_4a32_d192_ed03))
+        Rng(Rng(seed).word() ^ k.wrapping_mul(0xd1b5_4a32_d192_ed03))
     }
 
-    pub fn next(&mut self) -> u64 {
+    pub fn word(&mut self) -> u64 {
         self.0 = self.0.wrapping_add(0x9e37_79b9_7f4a_7c15);
         let z = (self.0 ^ self.0 >> 30).wrapping_mul(0xbf58_476d_1ce4_e5b9);
         let z = (z ^ z >> 27).wrapping_mul(0x94d0_49bb_1331_11eb);
@@ -21,7 +21,7 @@ impl Rng {
 
     /// Below `bound`, which is not 0.
     pub fn below(&mut self, bound: u64) -> u64 {
-        self.next() % bound
+        self.word() % bound
     }
 
     pub fn index(&mut self, len: usize) -> usize {

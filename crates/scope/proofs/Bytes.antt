@@ -3,12 +3,12 @@ use Prim.Native.Nat.{ℕ, zero, suc, _+_, _*_, _-_, _/_, _%_, _^_, _≤_, _<_}
 use mathlib.Core.Path.{_≡_, refl, sym, ap, _∙_, subst}
 use mathlib.Core.Logic.{_≢_}
 use mathlib.Core.List.{List, [], _∷_, _++_}
-use native.Mathlib.Nat.{div-add-mod', mul-le-mul-right, mod-lt}
+use native.Mathlib.Nat.{pow-suc, div-add-mod', mul-le-mul-right, mod-lt}
 use native.Mathlib.Decide.{decLe}
 use native.Mathlib.Omega.{arith}
 use lib.ListN.{length, take, drop, take-append-drop, length-append, length-drop}
 use lib.Seq.{take-append-le, drop-append-le, take-at, drop-at, drop-drop, length-take-le, drop-append-add}
-use Rattle.scope.specs.Bytes.{bytesOf, numberOf, numberAt, put}
+use Rattle.scope.specs.Bytes.{bytesOf, numberOf, put}
 
 -- numbers
 pub numberOf-bytesOf : (k x : ℕ) → x < 256 ^ k → numberOf (bytesOf k x) ≡ x
@@ -35,6 +35,12 @@ pub bytes-drop : (k : ℕ) (bs : List ℕ) → AllBytes bs → AllBytes (drop k 
 bytes-drop zero bs a = a
 bytes-drop (suc k) [] a = tt
 bytes-drop (suc k) (b ∷ bs) a = bytes-drop k bs (a .1)
+
+pub numberOf-small : (bs : List ℕ) → AllBytes bs → numberOf bs < 256 ^ length bs
+unfolding numberOf
+numberOf-small [] a = omega arith
+numberOf-small (b ∷ bs) a =
+    let i = numberOf-small bs (a .1) in let e : 256 ^ suc (length bs) ≡ 256 ^ length bs * 256 = pow-suc 256 (length bs) in omega (arith, a .0)
 
 pub bytesOf-numberOf : (bs : List ℕ) → AllBytes bs → bytesOf (length bs) (numberOf bs) ≡ bs
 unfolding bytesOf numberOf
@@ -83,6 +89,11 @@ rows-apart c a b p q e = go (decLe (b / c) (a / c))
     go : Dec (b / c ≤ a / c) → ⊥
     go (yes h) = omega (arith, div-add-mod' a c, div-add-mod' b c, mul-le-mul-right c h)
     go (no h) = let h′ : a / c + 1 ≤ b / c = omega arith in omega (arith, div-add-mod' a c, div-add-mod' b c, mul-le-mul-right c h′)
+
+-- a row of a buffer of c rows that begin at z has 32 bytes
+pub length-row : (z c i : ℕ) (w : List ℕ) → 0 < c → z + 32 * c ≤ length w → length (take 32 (drop (z + 32 * (i % c)) w)) ≡ 32
+length-row z c i w pos h =
+    let low : i % c < c = mod-lt i pos in length-take-le 32 (drop (z + 32 * (i % c)) w) (simp length-drop (omega arith))
 
 -- a store into one row of a buffer of c rows that begin at z leaves the others
 pub row-other : (z c a b : ℕ) (w v : List ℕ) → 0 < c → z + 32 * c ≤ length w → length v ≡ 32 → a % c ≢ b % c

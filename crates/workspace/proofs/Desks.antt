@@ -16,7 +16,7 @@ use Rattle.workspace.specs.Desk.{Desk, desk, assigned, restored, rolledF
 abbrev pub withDesk : Keeper → Desk → Keeper
 withDesk k d = record { medium = k .medium; current = d .current; first = d .first; last = d .last; waiting = k .waiting; state = k .state }
 
-waiting-entry : (k : Keeper) (m : ℕ) → readRow (k .state .cells) m (waitingRow k m) ≡ entryIn (k .waiting) 0 (k .state .slots) (k .state .cells) m
+pub waiting-entry : (k : Keeper) (m : ℕ) → readRow (k .state .cells) m (waitingRow k m) ≡ entryIn (k .waiting) 0 (k .state .slots) (k .state .cells) m
 unfolding waitingRow entryIn
 waiting-entry k m = rw zero-add
 

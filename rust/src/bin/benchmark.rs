@@ -21,6 +21,9 @@ const SIZES: [u32; 3] = [4, 64, 1024];
 const GROWING: [u32; 5] = [4, 16, 64, 256, 1024];
 const FIXED: u32 = 64;
 
+/// Ratios above this are named once more.
+const BAR: f64 = 1.1;
+
 const USAGE: &str = "benchmark [--svg FILE] [--note TEXT]";
 
 struct Options {
@@ -60,12 +63,15 @@ fn table() {
     print!("{:28}", "N = C");
     SIZES.iter().for_each(|size| print!("{size:>28}"));
     println!();
-    let mut largest = None;
+    let (mut largest, mut above) = (None, Vec::new());
     for (op, name) in OPS {
         print!("{name:28}");
         for size in SIZES {
             let Measured { library, plain, ratio } = of(op, size, size);
             print!("{library:>11.1}{plain:>10.1}{ratio:>7.2}");
+            if ratio > BAR {
+                above.push(format!("{name} at {size}: {ratio:.2}"));
+            }
             if (op, size) == (Op::StartFull, 1024) {
                 largest = Some(library);
             }
@@ -74,6 +80,11 @@ fn table() {
     }
     let (read, start) = (bench::plain_read(), largest.unwrap_or(f64::NAN));
     println!("\nrecovery start of the largest medium, full: {start:.0} ns; a plain read (sum) of its {LARGEST} bytes: {read:.0} ns");
+    if above.is_empty() {
+        println!("no ratio is above {BAR}");
+    } else {
+        println!("ratios above {BAR}: {}", above.join(", "));
+    }
 }
 
 fn growth() -> Vec<Panel> {

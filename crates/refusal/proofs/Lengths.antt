@@ -1,0 +1,48 @@
+-- What a fit call knows of its buffers: each length as N and C say.
+use Prim.Native.Nat.{ℕ, _+_, _*_, _≤_, _<_}
+use mathlib.Core.Path.{_≡_, refl, sym, ap, _∙_}
+use mathlib.Core.Bool.{Bool, true, false, _&&_}
+use mathlib.Core.List.{List}
+use native.Mathlib.Omega.{arith}
+use borrow.Author.Tests.{eqb-true}
+use lib.Dec.{eqb}
+use lib.ListN.{length}
+use Rattle.scope.specs.Keeper.{mediumLength, sound}
+use Rattle.state.specs.State.{stateOf}
+use Rattle.state.specs.declared.Numbers.{Numbers}
+use Rattle.state.specs.declared.Phase as code
+use Rattle.state.proofs.Facts.{and-left, and-right, Sound, sound-facts}
+use Rattle.journal.specs.Entries.{Rows}
+
+module _ (n : Numbers) (p : code.Phase) (s t f : Bool) (ss : s ≡ sound (stateOf n p)) (et : t ≡ (s && f)) (fit : t ≡ true) where
+  pub is-sound : Sound n p
+  is-sound = sound-facts n p (sym ss ∙ and-left s f (sym et ∙ fit))
+
+  pub is-lent : f ≡ true
+  is-lent = and-right s f (sym et ∙ fit)
+
+ruleset tests = (and-left, and-right, eqb-true)
+
+pub rows-fit : (n : Numbers) (p : code.Phase) (rows : List ℕ) (base x : ℕ) → Sound n p → base + 32 * n .slots ≤ length rows → 0 < x → Rows rows base (n .slots) x
+rows-fit n p rows base x s h i = omega arith
+
+pub medium-fits : (n : Numbers) (m : List ℕ) → eqb (length m) (mediumLength (n .cells) (n .slots)) ≡ true → length m ≡ 32 + 32 * n .slots + 8 * n .cells
+unfolding mediumLength
+medium-fits n m e = eqb-true _ _ e
+
+module _ (cells slots : ℕ) (current first last waiting : List ℕ) where
+  pub desk-fits : (d : Bool)
+      → d ≡ (eqb (length current) cells && (eqb (length first) cells && (eqb (length last) cells && eqb (length waiting) (32 * slots)))) → d ≡ true
+      → (length current ≡ cells) × (length first ≡ cells) × (length last ≡ cells) × (length waiting ≡ 32 * slots)
+  desk-fits d e z = let q = sym e ∙ z in (search tests, search tests, search tests, search tests)
+
+pub pair-fits : (n : Numbers) (m waiting : List ℕ) (a b f : Bool) → a ≡ eqb (length m) (mediumLength (n .cells) (n .slots)) → b ≡ eqb (length waiting) (32 * n .slots)
+    → f ≡ (a && b) → f ≡ true → (length m ≡ 32 + 32 * n .slots + 8 * n .cells) × (length waiting ≡ 32 * n .slots)
+pair-fits n m waiting a b f ea eb ef z =
+    (medium-fits n m (sym ea ∙ and-left a b (sym ef ∙ z)), eqb-true _ _ (sym eb ∙ and-right a b (sym ef ∙ z)))
+
+pub back-fits : (cells : ℕ) (first last : List ℕ) (a b c d f g : Bool) → c ≡ eqb (length first) cells → d ≡ eqb (length last) cells → f ≡ (c && d) → g ≡ (b && f)
+    → (i : Bool) → i ≡ (a && g) → i ≡ true → (length first ≡ cells) × (length last ≡ cells)
+back-fits cells first last a b c d f g ec ed ef eg i ei z =
+    let q = sym ef ∙ and-right b f (sym eg ∙ and-right a g (sym ei ∙ z)) in
+    (eqb-true _ _ (sym ec ∙ and-left c d q), eqb-true _ _ (sym ed ∙ and-right c d q))

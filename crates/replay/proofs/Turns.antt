@@ -1,0 +1,191 @@
+-- Undo, replay and scan, one law for each way that an entry or a turn of a loop goes: what remains to be done stays the same.
+use Prim.Native.Nat.{ℕ, suc, _+_, _-_, _≤_, _<_}
+use mathlib.Core.Path.{_≡_, refl, sym, ap, _∙_}
+use mathlib.Core.Bool.{Bool, true, false, _&&_}
+use mathlib.Core.List.{List, [], _∷_}
+use mathlib.Core.Option.{Option, none, some}
+use mathlib.Core.Logic.{⊎-elim}
+use native.Mathlib.Omega.{arith}
+use borrow.Author.Tests.{le-leb, lt-leb, leb-true, eq-eqb, ne-eqb}
+use types.Run.{OneOf}
+use denote.Enum.Declared.{tagOf}
+use lib.Dec.{eqb, leb}
+use lib.ListN.{length, set, take, drop}
+use Rattle.scope.specs.Bytes.{pick, maxNo, numberAt}
+use Rattle.scope.specs.Row.{Entry, update, commitEntry, abortEntry, entryOf}
+use Rattle.scope.specs.Keeper.{rowAt}
+use Rattle.scope.specs.Recovery.{rowsOf, also, entriesFrom, atMost, journal}
+use Rattle.scope.proofs.Row.{read-fields}
+use Rattle.row.specs.Row.{entry, meaning}
+use Rattle.row.specs.declared.Row.{Row}
+use Rattle.row.specs.declared.Row.the-variants.{Holds, Nothing}
+use Rattle.row.specs.declared.Entry as code
+use Rattle.row.specs.declared.Entry.the-variants.{Update, Commit, Abort}
+use Rattle.row.proofs.Entry.{the-type}
+use Rattle.journal.specs.Entries.{entryIn}
+use Rattle.replay.specs.Replay.{lastOf, undoEntry, undoFrom, replayEntry, openAfter, replayFrom}
+
+-- what a row's answer means, by its variants
+
+module _ (x : Row) (r : Option Entry) (m : meaning x ≡ r) where
+  pub is-nothing : x ≡ Nothing → none ≡ r
+  is-nothing p = sym (ap meaning p) ∙ m
+
+  module _ (w : code.Entry) (p : x ≡ Holds w) where
+    pub is-some : some (entry w) ≡ r
+    is-some = sym (ap meaning p) ∙ m
+
+    pub is-update : (c old new : ℕ) → w ≡ Update c old new → some (update c old new) ≡ r
+    is-update c old new q = sym (ap (λ v. some (entry v)) q) ∙ is-some
+
+    pub is-commit : w ≡ Commit → some commitEntry ≡ r
+    is-commit q = sym (ap (λ v. some (entry v)) q) ∙ is-some
+
+    pub is-abort : w ≡ Abort → some abortEntry ≡ r
+    is-abort q = sym (ap (λ v. some (entry v)) q) ∙ is-some
+
+    -- no update
+    pub undo-end : (t : List ℕ) → OneOf (1 ∷ 2 ∷ []) (tagOf the-type w) → t ≡ undoEntry r t
+    undo-end t h = kept w h ∙ ap (λ z. undoEntry z t) is-some
+      where
+        zero-is : (k : ℕ) → 0 ≡ suc k → ⊥
+        zero-is k e = omega arith
+
+        kept : (v : code.Entry) → OneOf (1 ∷ 2 ∷ []) (tagOf the-type v) → t ≡ undoEntry (some (entry v)) t
+        kept (Update c old new) g = absurd (⊎-elim (zero-is 0) (zero-is 1) g)
+        kept Commit g = refl
+        kept Abort g = refl
+
+-- an update that reads has its cell below N
+
+same-cell : (k c a b c′ a′ b′ : ℕ) → entryOf k c a b ≡ some (update c′ a′ b′) → c ≡ c′
+unfolding entryOf
+same-cell k c a b c′ a′ b′ p = go (eqb k 1) (eqb c 0 && (eqb a 0 && eqb b 0)) (eqb k 2) (eqb k 3) p
+  where
+    go : (t z k₂ k₃ : Bool)
+        → pick t (some (update c a b)) (pick z (pick k₂ (some commitEntry) (pick k₃ (some abortEntry) none)) none) ≡ some (update c′ a′ b′)
+        → c ≡ c′
+    go true z k₂ k₃ q = cc
+    go false true true k₃ q = cc
+    go false true false true q = cc
+    go false true false false q = cc
+    go false false k₂ k₃ q = cc
+
+pub entry-below : (rows : List ℕ) (base slots cells n c old new : ℕ) → some (update c old new) ≡ entryIn rows base slots cells n → c < cells
+unfolding entryIn
+entry-below rows base slots cells n c old new p =
+    let f = read-fields cells n (take 32 (drop (base + rowAt slots n) rows)) (update c old new) (sym p) in
+    omega (arith, f .below, same-cell _ _ _ _ _ _ _ (f .entry))
+
+-- one entry undone, replayed
+
+pub undo-nothing : (r : Option Entry) (t : List ℕ) → none ≡ r → t ≡ undoEntry r t
+undo-nothing r t p = ap (λ z. undoEntry z t) p
+
+pub undo-update : (r : Option Entry) (t : List ℕ) (i c old new : ℕ) → some (update c old new) ≡ r → i ≡ c → set t i old ≡ undoEntry r t
+undo-update r t i c old new p q = ap (λ j. set t j old) q ∙ ap (λ z. undoEntry z t) p
+
+module _ (e : ℕ → Option Entry) (r : Option Entry) (s n k : ℕ) (t : List ℕ) where
+  pub replay-nothing : none ≡ r → (t ≡ replayEntry e r s n t) × (s ≡ openAfter r s k)
+  replay-nothing p = (ap (λ z. replayEntry e z s n t) p, ap (λ z. openAfter z s k) p)
+
+  pub replay-update : (i c old new : ℕ) → some (update c old new) ≡ r → i ≡ c → (set t i new ≡ replayEntry e r s n t) × (s ≡ openAfter r s k)
+  replay-update i c old new p q = (ap (λ j. set t j new) q ∙ ap (λ z. replayEntry e z s n t) p, ap (λ z. openAfter z s k) p)
+
+  pub replay-commit : some commitEntry ≡ r → (t ≡ replayEntry e r s n t) × (k ≡ openAfter r s k)
+  replay-commit p = (ap (λ z. replayEntry e z s n t) p, ap (λ z. openAfter z s k) p)
+
+  pub replay-abort : (t′ : List ℕ) → t′ ≡ undoFrom e s (n - s) t → some abortEntry ≡ r → (t′ ≡ replayEntry e r s n t) × (k ≡ openAfter r s k)
+  replay-abort t′ q p = (q ∙ ap (λ z. replayEntry e z s n t) p, ap (λ z. openAfter z s k) p)
+
+-- the falling loop of undo, which has still to make of t what it was to make of the first table
+
+module _ (e : ℕ → Option Entry) (s k : ℕ) (all t : List ℕ) (p : all ≡ undoFrom e s (k - s) t) where
+  undo-suc : (j i : ℕ) → j ≡ suc i → undoFrom e s j t ≡ undoFrom e s i (undoEntry (e (s + j)) t)
+  unfolding undoFrom
+  undo-suc j i h = rw h
+
+  pub undo-again : s < k → (t′ : List ℕ) → t′ ≡ undoEntry (e k) t → all ≡ undoFrom e s (k - 1 - s) t′
+  undo-again h t′ q =
+      let z : k - s ≡ suc (k - 1 - s) = omega arith in
+      let y : s + (k - s) ≡ k = omega arith in
+      p ∙ undo-suc (k - s) (k - 1 - s) z ∙ rw (y, q)
+
+  pub undo-done : k ≤ s → t ≡ all
+  unfolding undoFrom
+  undo-done h = let z : k - s ≡ 0 = omega arith in sym (p ∙ rw z)
+
+-- the rising loop of replay
+
+module _ (e : ℕ → Option Entry) (last s n : ℕ) (all t : List ℕ) (p : all ≡ replayFrom e (last - n) s n t) where
+  replay-suc : (j i : ℕ) → j ≡ suc i
+      → replayFrom e j s n t ≡ replayFrom e i (openAfter (e (n + 1)) s (n + 1)) (n + 1) (replayEntry e (e (n + 1)) s n t)
+  unfolding replayFrom
+  replay-suc j i h = rw h
+
+  pub replay-again : n < last → (s′ : ℕ) (t′ : List ℕ) → t′ ≡ replayEntry e (e (n + 1)) s n t → s′ ≡ openAfter (e (n + 1)) s (n + 1)
+      → all ≡ replayFrom e (last - (n + 1)) s′ (n + 1) t′
+  replay-again h s′ t′ q u =
+      let z : last - n ≡ suc (last - (n + 1)) = omega arith in
+      p ∙ replay-suc (last - n) (last - (n + 1)) z ∙ rw (q, u)
+
+  pub replay-done : last ≤ n → (t′ : List ℕ) → t′ ≡ undoFrom e s (n - s) t → t′ ≡ all
+  unfolding replayFrom
+  replay-done h t′ q = let z : last - n ≡ 0 = omega arith in q ∙ sym (p ∙ rw z)
+
+-- how many rows are read
+
+module _ (slots h : ℕ) where
+  pub most-all : slots ≤ 4294967295 - h → slots ≡ atMost slots h
+  unfolding atMost maxNo
+  most-all p = simp (le-leb slots (4294967295 - h) p)
+
+  pub most-left : 4294967295 - h < slots → 4294967295 - h ≡ atMost slots h
+  unfolding atMost maxNo
+  most-left p = simp (lt-leb slots (4294967295 - h) p)
+
+  pub most-fits : h < 4294967296 → h + atMost slots h < 4294967296
+  unfolding atMost maxNo
+  most-fits p = go (leb slots (4294967295 - h)) refl
+    where
+      go : (b : Bool) → leb slots (4294967295 - h) ≡ b → h + pick b slots (4294967295 - h) < 4294967296
+      go true q = omega (arith, leb-true slots (4294967295 - h) q)
+      go false q = omega arith
+
+-- the scan
+
+last-empty : (n : ℕ) → lastOf n (some []) ≡ some n
+last-empty n = let z : n + 0 ≡ n = omega arith in ap some z
+
+last-also : (n : ℕ) (x : Entry) (o : Option (List Entry)) → lastOf n (also x o) ≡ lastOf (n + 1) o
+last-also n x none = refl
+last-also n x (some es) = let z : n + suc (length es) ≡ n + 1 + length es = omega arith in ap some z
+
+module _ (m : List ℕ) (slots cells : ℕ) where
+  pub scan-starts : (h left : ℕ) → left ≡ atMost slots h
+      → lastOf h (journal cells slots h m) ≡ lastOf h (entriesFrom (rowsOf slots m) cells left h)
+  unfolding journal
+  scan-starts h left p = ap (λ k. lastOf h (entriesFrom (rowsOf slots m) cells k h)) (sym p)
+
+  module _ (all : Option ℕ) (n left : ℕ) (p : all ≡ lastOf n (entriesFrom (rowsOf slots m) cells left n)) where
+    pub scan-done : left ≤ 0 → some n ≡ all
+    unfolding entriesFrom
+    scan-done h = let z : left ≡ 0 = omega arith in sym (p ∙ rw z (last-empty n))
+
+    module _ (h : 0 < left) where
+      scan-suc : all ≡ lastOf n (entriesFrom (rowsOf slots m) cells (suc (left - 1)) n)
+      scan-suc = let z : left ≡ suc (left - 1) = omega arith in p ∙ ap (λ k. lastOf n (entriesFrom (rowsOf slots m) cells k n)) z
+
+      pub scan-stop : (numberAt 4 0 (rowsOf slots m (n + 1)) ≡ n + 1 → ⊥) → some n ≡ all
+      unfolding entriesFrom
+      scan-stop q = sym (scan-suc ∙ simp (ne-eqb _ _ q) (last-empty n))
+
+      module _ (q : numberAt 4 0 (rowsOf slots m (n + 1)) ≡ n + 1) where
+        pub scan-bad : none ≡ entryIn m 32 slots cells (n + 1) → none ≡ all
+        unfolding entriesFrom entryIn
+        scan-bad e = sym (scan-suc ∙ simp (eq-eqb _ _ q, ← e))
+
+        pub scan-again : (x : Entry) → some x ≡ entryIn m 32 slots cells (n + 1)
+            → all ≡ lastOf (n + 1) (entriesFrom (rowsOf slots m) cells (left - 1) (n + 1))
+        unfolding entriesFrom entryIn
+        scan-again x e = scan-suc ∙ simp (eq-eqb _ _ q, ← e) (last-also n x (entriesFrom (rowsOf slots m) cells (left - 1) (n + 1)))

@@ -1,0 +1,74 @@
+// Replay of a medium's entries over a table of current values. Entries are read by `scan` before, so each row reads.
+ghost use mathlib.Core.Path.{_≡_};
+ghost use Prim.Native.Nat.{_+_, _-_, _*_, _<_, _≤_};
+ghost use lib.ListN.{length};
+ghost use Rattle.journal.specs.Entries.{Rows, entryIn};
+ghost use Rattle.replay.specs.Replay.{undoEntry, undoFrom, replayEntry, openAfter, replayFrom};
+use journal::entry_at;
+use medium::layout::index;
+use row::Entry;
+use row::Row;
+
+// Entry n undone.
+fn undo_entry(medium: &[u8], slots: u32, cells: u32, n: u32, current: &mut [u64])
+    requires { ⌜ (Rows (now medium) 32 slots n) × (length (now current) ≡ cells) ⌝ }
+    ensures { λ _. ⌜ now (current .exit) ≡ undoEntry (entryIn (now (medium .entry)) 32 slots cells n) (now (current .entry)) ⌝ }
+{
+    let Row::Holds(what) = entry_at(medium, 32, slots, cells, n) else {
+        return;
+    };
+    let Entry::Update { cell, old, new: _ } = what else {
+        return;
+    };
+    let at = index(cell);
+    current[at] = old;
+}
+
+// Entries n, n - 1, .., s + 1 undone, in falling order.
+fn undo(medium: &[u8], slots: u32, cells: u32, s: u32, n: u32, current: &mut [u64])
+    requires { ⌜ (Rows (now medium) 32 slots 1) × (length (now current) ≡ cells) ⌝ }
+    ensures { λ _. ⌜ now (current .exit) ≡ undoFrom (entryIn (now (medium .entry)) 32 slots cells) s (n - s) (now (current .entry)) ⌝ }
+{
+    let mut k = n;
+    while s < k {
+        undo_entry(medium, slots, cells, k, current);
+        k -= 1;
+    }
+}
+
+// Entry n + 1 replayed, where the open transaction's updates come after s. Answers the next s.
+fn replay_entry(medium: &[u8], slots: u32, cells: u32, s: u32, n: u32, current: &mut [u64]) -> u32
+    requires { ⌜ (Rows (now medium) 32 slots 1) × ((length (now current) ≡ cells) × (n < 4294967295)) ⌝ }
+    ensures { λ r. ⌜ (now (current .exit) ≡ replayEntry (entryIn (now (medium .entry)) 32 slots cells) (entryIn (now (medium .entry)) 32 slots cells (n + 1)) s n (now (current .entry))) × (r ≡ openAfter (entryIn (now (medium .entry)) 32 slots cells (n + 1)) s (n + 1)) ⌝ }
+{
+    let next = n + 1;
+    let Row::Holds(what) = entry_at(medium, 32, slots, cells, next) else {
+        return s;
+    };
+    match what {
+        Entry::Update { cell, old: _, new } => {
+            let at = index(cell);
+            current[at] = new;
+            s
+        }
+        Entry::Commit => next,
+        Entry::Abort => {
+            undo(medium, slots, cells, s, n, current);
+            next
+        }
+    }
+}
+
+// Entries h + 1 to e replayed, and what is left open undone. Goes once over those rows, and once more over each undone one.
+pub fn replay(medium: &[u8], slots: u32, cells: u32, h: u32, e: u32, current: &mut [u64])
+    requires { ⌜ (Rows (now medium) 32 slots 1) × ((length (now current) ≡ cells) × (h ≤ e)) ⌝ }
+    ensures { λ _. ⌜ now (current .exit) ≡ replayFrom (entryIn (now (medium .entry)) 32 slots cells) (e - h) h h (now (current .entry)) ⌝ }
+{
+    let mut n = h;
+    let mut s = h;
+    while n < e {
+        s = replay_entry(medium, slots, cells, s, n, current);
+        n += 1;
+    }
+    undo(medium, slots, cells, s, n, current);
+}

@@ -1,0 +1,45 @@
+// Which entries count.
+ghost use mathlib.Core.Path.{_≡_};
+ghost use Prim.Native.Nat.{_+_, _*_, _<_, _≤_};
+ghost use lib.ListN.{length};
+ghost use Rattle.scope.specs.Recovery.{atMost, journal};
+ghost use Rattle.journal.specs.Entries.{Rows};
+ghost use Rattle.replay.specs.Replay.{lastOf, upto};
+use journal::entry_at;
+use journal::number_at;
+use row::Row;
+
+// The last entry that counts, or that a row with the expected number does not read as an entry.
+pub enum Counted {
+    Upto(u32),
+    Malformed,
+}
+
+// How many rows are read at most: C, and not past M.
+fn at_most(slots: u32, h: u32) -> u32
+    ensures { λ r. ⌜ r ≡ atMost slots h ⌝ }
+{
+    let left = 4294967295 - h;
+    if slots <= left { slots } else { left }
+}
+
+// Entries h+1, h+2, .. of a medium are read while the row holds that number. Goes once over those rows.
+pub fn scan(medium: &[u8], slots: u32, cells: u32, h: u32) -> Counted
+    requires { ⌜ Rows (now medium) 32 slots 1 ⌝ }
+    ensures { λ r. ⌜ upto r ≡ lastOf h (journal cells slots h (now (medium .entry))) ⌝ }
+{
+    let mut n = h;
+    let mut left = at_most(slots, h);
+    while 0 < left {
+        let next = n + 1;
+        if number_at(medium, slots, next) != next {
+            return Counted::Upto(n);
+        }
+        let Row::Holds(_) = entry_at(medium, 32, slots, cells, next) else {
+            return Counted::Malformed;
+        };
+        n = next;
+        left -= 1;
+    }
+    Counted::Upto(n)
+}

@@ -1,0 +1,38 @@
+use Rattle.scope.specs.Keeper.{isIdle}
+use Rattle.state.specs.State.{phaseOf}
+use mathlib.Core.Path.{sym, ap}
+use borrow.Author.Needs.{needs}
+use Rattle.state.proofs.is_idle.Statement.{statement}
+use Rattle.state.proofs.is_idle.Tie as tie
+use Rattle.state.proofs.is_idle.Reads as reads
+use Rattle.state.proofs.is_idle.Lts as lts
+
+-- src/lib.rt:32:24
+enum-told : tie.Need-enum-told
+enum-told c = search needs
+
+-- src/lib.rt:33:23
+enum-told-2 : tie.Need-enum-told-2
+enum-told-2 c = search needs
+
+-- src/lib.rt:34:30
+enum-told-3 : tie.Need-enum-told-3
+enum-told-3 c = search needs
+
+-- src/lib.rt:28:1
+returns : tie.Need-returns
+unfolding isIdle
+returns c = sym (ap (λ x. isIdle (phaseOf x)) (c .enum-told .given .1))
+
+-- src/lib.rt:28:1
+returns-2 : tie.Need-returns-2
+unfolding isIdle
+returns-2 c = sym (ap (λ x. isIdle (phaseOf x)) (c .enum-told2 .given .1))
+
+-- src/lib.rt:28:1
+returns-3 : tie.Need-returns-3
+unfolding isIdle
+returns-3 c = sym (ap (λ x. isIdle (phaseOf x)) (c .enum-told3 .given .1))
+
+pub is-idle-spec : {M : Type 1} → statement M
+is-idle-spec = tie.close (tie.spec enum-told enum-told-2 enum-told-3 returns returns-2 returns-3)
