@@ -56,5 +56,5 @@ module _ (w : List ℕ) (at : ℕ) (fits : at + 32 ≤ length w) (h : (i : ℕ) 
       let q₄ = p₄ ∙ put-next m m₃ (at + 32) (at + 56) (bytesOf 8 a ++ bytesOf 8 b ++ bytesOf 8 c) (bytesOf 8 d) q₃ (simp (length-append, length-bytesOf) (omega arith)) (simp length-bytesOf (omega arith)) in
       let e : at + 32 ≡ 32 + rowAt slots n = omega arith in
       let v : bytesOf 8 a ++ bytesOf 8 b ++ bytesOf 8 c ++ bytesOf 8 d ≡ take 32 (drop (rowAt slots n) w) =
-          rw (ea, eb, ec, ed) (sym words ∙ ap (λ j. take 32 (drop j w)) r) in
+      rw (ea, eb, ec, ed) (sym words ∙ ap (λ j. take 32 (drop j w)) r) in
       q₄ ∙ ap (λ j. put m j (bytesOf 8 a ++ bytesOf 8 b ++ bytesOf 8 c ++ bytesOf 8 d)) e ∙ ap (put m (32 + rowAt slots n)) v

@@ -10,7 +10,8 @@ ghost use Rattle.scope.specs.Recovery.{rowsOf};
 ghost use Rattle.row.specs.Row.{entry, meaning};
 ghost use Rattle.journal.specs.Entries.{Rows, entryIn};
 use medium::layout::row_at;
-use row::{Entry, Row};
+use row::Entry;
+use row::Row;
 
 // The row of entry n, of C rows that begin at a place, as that entry of a table of N cells.
 pub fn entry_at(rows: &[u8], base: usize, slots: u32, cells: u32, n: u32) -> Row

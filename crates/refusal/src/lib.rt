@@ -14,9 +14,18 @@ ghost use Rattle.journal.specs.Entries.{Rows, entryIn};
 ghost use Rattle.refusal.specs.Lent.{lentTo, notUpdatesIn, movedNo};
 use journal::entry_at;
 use medium::layout::index;
-use row::{Entry, Row};
-use state::{Numbers, Phase, both, either, is_idle, is_recovering, is_run, refuse};
-use workspace::{all_updates, any_first};
+use row::Entry;
+use row::Row;
+use state::Numbers;
+use state::Phase;
+use state::both;
+use state::either;
+use state::is_idle;
+use state::is_recovering;
+use state::is_run;
+use state::refuse;
+use workspace::all_updates;
+use workspace::any_first;
 
 // 1, then 10.
 fn entered(fit: bool, phase: Phase) -> u32
@@ -28,7 +37,10 @@ fn entered(fit: bool, phase: Phase) -> u32
 pub fn recovery_step(numbers: Numbers, phase: Phase, medium: &[u8], current: &[u64]) -> u32
     ensures { λ r. ⌜ r ≡ refusal RecoveryStep (lentTo numbers phase (now (medium .entry)) (now (current .entry)) [] [] []) ⌝ }
 {
-    let lent = both(numbers.fits_medium(medium.len()), numbers.fits_cells(current.len()));
+    let lent = both(
+        numbers.fits_medium(medium.len()),
+        numbers.fits_cells(current.len()),
+    );
     let fit = both(numbers.sound(phase), lent);
     refuse(!fit, 1, refuse(!is_recovering(phase), 10, 0))
 }
@@ -38,7 +50,15 @@ pub fn read(numbers: Numbers, phase: Phase, cell: u32, current: &[u64]) -> u32
 {
     let fit = both(numbers.sound(phase), numbers.fits_cells(current.len()));
     let past = numbers.cells <= cell;
-    refuse(!fit, 1, refuse(is_recovering(phase), 10, refuse(is_idle(phase), 3, refuse(past, 4, 0))))
+    refuse(
+        !fit,
+        1,
+        refuse(
+            is_recovering(phase),
+            10,
+            refuse(is_idle(phase), 3, refuse(past, 4, 0)),
+        ),
+    )
 }
 
 pub fn write(
@@ -56,14 +76,26 @@ pub fn write(
     let fit = both(numbers.sound(phase), lent);
     let past = numbers.cells <= cell;
     let room = refuse(numbers.full(phase), 5, refuse(numbers.used_up(phase), 6, 0));
-    refuse(!fit, 1, refuse(is_recovering(phase), 10, refuse(is_idle(phase), 3, refuse(past, 4, room))))
+    refuse(
+        !fit,
+        1,
+        refuse(
+            is_recovering(phase),
+            10,
+            refuse(is_idle(phase), 3, refuse(past, 4, room)),
+        ),
+    )
 }
 
 pub fn commit(numbers: Numbers, phase: Phase, waiting: &[u8]) -> u32
     ensures { λ r. ⌜ r ≡ refusal Commit (lentTo numbers phase [] [] [] [] (now (waiting .entry))) ⌝ }
 {
     let fit = both(numbers.sound(phase), numbers.fits_rows(waiting.len()));
-    refuse(!fit, 1, refuse(is_recovering(phase), 10, refuse(is_idle(phase), 3, 0)))
+    refuse(
+        !fit,
+        1,
+        refuse(is_recovering(phase), 10, refuse(is_idle(phase), 3, 0)),
+    )
 }
 
 // 7: in run a waiting row of o+1 to l isn't that update.
@@ -78,7 +110,14 @@ fn not_updates(numbers: Numbers, phase: Phase, waiting: &[u8]) -> bool
     !all_updates(waiting, numbers.slots, numbers.cells, numbers.o, numbers.l)
 }
 
-pub fn abort(numbers: Numbers, phase: Phase, current: &[u64], first: &[u32], last: &[u32], waiting: &[u8]) -> u32
+pub fn abort(
+    numbers: Numbers,
+    phase: Phase,
+    current: &[u64],
+    first: &[u32],
+    last: &[u32],
+    waiting: &[u8],
+) -> u32
     ensures { λ r. ⌜ r ≡ refusal Abort (lentTo numbers phase [] (now (current .entry)) (now (first .entry)) (now (last .entry)) (now (waiting .entry))) ⌝ }
 {
     let lent = numbers.fits_desk(current.len(), first.len(), last.len(), waiting.len());
@@ -90,7 +129,14 @@ pub fn abort(numbers: Numbers, phase: Phase, current: &[u64], first: &[u32], las
     refuse(not_updates(numbers, phase, waiting), 7, 0)
 }
 
-pub fn begin(numbers: Numbers, phase: Phase, current: &[u64], first: &[u32], last: &[u32], waiting: &[u8]) -> u32
+pub fn begin(
+    numbers: Numbers,
+    phase: Phase,
+    current: &[u64],
+    first: &[u32],
+    last: &[u32],
+    waiting: &[u8],
+) -> u32
     ensures { λ r. ⌜ r ≡ refusal Begin (lentTo numbers phase [] (now (current .entry)) (now (first .entry)) (now (last .entry)) (now (waiting .entry))) ⌝ }
 {
     let no = abort(numbers, phase, current, first, last, waiting);
@@ -103,7 +149,10 @@ pub fn begin(numbers: Numbers, phase: Phase, current: &[u64], first: &[u32], las
 pub fn force(numbers: Numbers, phase: Phase, medium: &[u8], waiting: &[u8]) -> u32
     ensures { λ r. ⌜ r ≡ refusal Force (lentTo numbers phase (now (medium .entry)) [] [] [] (now (waiting .entry))) ⌝ }
 {
-    let lent = both(numbers.fits_medium(medium.len()), numbers.fits_rows(waiting.len()));
+    let lent = both(
+        numbers.fits_medium(medium.len()),
+        numbers.fits_rows(waiting.len()),
+    );
     let fit = both(numbers.sound(phase), lent);
     let no = entered(fit, phase);
     if no != 0 {
@@ -130,10 +179,24 @@ pub fn write_back(
 ) -> u32
     ensures { λ r. ⌜ r ≡ refusal (WriteBack cell) (lentTo numbers phase (now (medium .entry)) (now (current .entry)) (now (first .entry)) (now (last .entry)) []) ⌝ }
 {
-    let values = both(numbers.fits_cells(first.len()), numbers.fits_cells(last.len()));
-    let lent = both(numbers.fits_medium(medium.len()), both(numbers.fits_cells(current.len()), values));
+    let values = both(
+        numbers.fits_cells(first.len()),
+        numbers.fits_cells(last.len()),
+    );
+    let lent = both(
+        numbers.fits_medium(medium.len()),
+        both(numbers.fits_cells(current.len()), values),
+    );
     let fit = both(numbers.sound(phase), lent);
-    let no = refuse(!fit, 1, refuse(is_recovering(phase), 10, refuse(numbers.cells <= cell, 4, 0)));
+    let no = refuse(
+        !fit,
+        1,
+        refuse(
+            is_recovering(phase),
+            10,
+            refuse(numbers.cells <= cell, 4, 0),
+        ),
+    );
     if no != 0 {
         return no;
     }
@@ -156,7 +219,12 @@ fn cut_row(numbers: Numbers, p: u32, medium: &[u8]) -> u32
     let Row::Holds(what) = entry_at(medium, 32, numbers.slots, numbers.cells, p) else {
         return 7;
     };
-    let Entry::Update { cell: _, old: _, new: _ } = what else {
+    let Entry::Update {
+        cell: _,
+        old: _,
+        new: _,
+    } = what
+    else {
         return 0;
     };
     9
@@ -165,7 +233,10 @@ fn cut_row(numbers: Numbers, p: u32, medium: &[u8]) -> u32
 pub fn cut(numbers: Numbers, phase: Phase, p: u32, medium: &[u8], first: &[u32]) -> u32
     ensures { λ r. ⌜ r ≡ refusal (Cut p) (lentTo numbers phase (now (medium .entry)) [] (now (first .entry)) [] []) ⌝ }
 {
-    let lent = both(numbers.fits_medium(medium.len()), numbers.fits_cells(first.len()));
+    let lent = both(
+        numbers.fits_medium(medium.len()),
+        numbers.fits_cells(first.len()),
+    );
     let fit = both(numbers.sound(phase), lent);
     // p below h, above f or above o
     let out = either(p < numbers.h, either(numbers.f < p, numbers.o < p));
@@ -183,8 +254,15 @@ pub fn cut(numbers: Numbers, phase: Phase, p: u32, medium: &[u8], first: &[u32])
 pub fn look(numbers: Numbers, phase: Phase, n: u32, medium: &[u8], waiting: &[u8]) -> u32
     ensures { λ r. ⌜ r ≡ refusal (Look n) (lentTo numbers phase (now (medium .entry)) [] [] [] (now (waiting .entry))) ⌝ }
 {
-    let lent = both(numbers.fits_medium(medium.len()), numbers.fits_rows(waiting.len()));
+    let lent = both(
+        numbers.fits_medium(medium.len()),
+        numbers.fits_rows(waiting.len()),
+    );
     let fit = both(numbers.sound(phase), lent);
     let out = either(n <= numbers.h, numbers.l < n);
-    refuse(!fit, 1, refuse(is_recovering(phase), 10, refuse(out, 11, 0)))
+    refuse(
+        !fit,
+        1,
+        refuse(is_recovering(phase), 10, refuse(out, 11, 0)),
+    )
 }

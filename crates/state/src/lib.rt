@@ -7,7 +7,9 @@ ghost use Rattle.scope.specs.Bytes.{pick};
 ghost use Rattle.scope.specs.Keeper.{isIdle, isRun, isRecovering, mediumLength, phaseOk, sound};
 ghost use Rattle.scope.specs.Refusals.{openCount, full, usedUp};
 ghost use Rattle.state.specs.State.{phaseOf, stateOf};
-use medium::layout::{in_range, index, medium_length};
+use medium::layout::in_range;
+use medium::layout::index;
+use medium::layout::medium_length;
 
 pub enum Phase {
     Idle,

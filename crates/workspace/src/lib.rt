@@ -10,7 +10,8 @@ ghost use Rattle.journal.specs.Entries.{Rows, entryIn};
 ghost use Rattle.workspace.specs.Desk.{desk, Fits, assigned, restored, rolledFrom, updatesFrom};
 use journal::entry_at;
 use medium::layout::index;
-use row::{Entry, Row};
+use row::Entry;
+use row::Row;
 
 // A cell's `first` after entry n: set where it was 0.
 fn first_mark(old: u32, n: u32) -> u32
@@ -20,7 +21,14 @@ fn first_mark(old: u32, n: u32) -> u32
 }
 
 // The cell gets the value by entry n, which sets `last`, and `first` where it was 0.
-pub fn assign(current: &mut [u64], first: &mut [u32], last: &mut [u32], cell: u32, value: u64, n: u32)
+pub fn assign(
+    current: &mut [u64],
+    first: &mut [u32],
+    last: &mut [u32],
+    cell: u32,
+    value: u64,
+    n: u32,
+)
     requires { ⌜ (cell < length (now current)) × ((cell < length (now first)) × (cell < length (now last))) ⌝ }
     ensures { λ _. ⌜ desk (now (current .exit)) (now (first .exit)) (now (last .exit)) ≡ assigned n cell value (desk (now (current .entry)) (now (first .entry)) (now (last .entry))) ⌝ }
 {
@@ -83,7 +91,12 @@ fn is_update(waiting: &[u8], slots: u32, cells: u32, m: u32) -> bool
     let Row::Holds(what) = entry_at(waiting, 0, slots, cells, m) else {
         return false;
     };
-    let Entry::Update { cell: _, old: _, new: _ } = what else {
+    let Entry::Update {
+        cell: _,
+        old: _,
+        new: _,
+    } = what
+    else {
         return false;
     };
     true

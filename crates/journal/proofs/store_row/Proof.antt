@@ -1,85 +1,63 @@
+-- `journal::store_row` meets its contract. A row is four words, each read and stored.
+use borrow.Author.Needs.{needs}
 use native.Mathlib.Omega.{arith}
 use Rattle.journal.proofs.RowPlaces.{four-words}
-use borrow.Author.Needs.{needs}
 use Rattle.journal.proofs.store_row.Statement.{statement}
 use Rattle.journal.proofs.store_row.Tie as tie
-use Rattle.journal.proofs.store_row.Reads as reads
-use Rattle.journal.proofs.store_row.Lts as lts
-use Rattle.medium.proofs.layout.row_at.Reads as row-at-reads
-use Rattle.number.proofs.get8.Reads as get8-reads
-use Rattle.number.proofs.put8.Reads as put8-reads
 
--- src/rows.rt:45:9
 row-at-requires : tie.Need-row-at-requires
 row-at-requires c κs = search needs
 
--- src/rows.rt:46:9
 get8-requires : tie.Need-get8-requires
 get8-requires c κs = search needs
 
--- src/rows.rt:47:35
 add-get8 : tie.Need-add-get8
 add-get8 c = search needs
 
--- src/rows.rt:47:9
 get8-requires-2 : tie.Need-get8-requires-2
 get8-requires-2 c κs = search needs
 
--- src/rows.rt:48:35
 add-get8-2 : tie.Need-add-get8-2
 add-get8-2 c = search needs
 
--- src/rows.rt:48:9
 get8-requires-3 : tie.Need-get8-requires-3
 get8-requires-3 c κs = search needs
 
--- src/rows.rt:49:35
 add-get8-3 : tie.Need-add-get8-3
 add-get8-3 c = search needs
 
--- src/rows.rt:49:9
 get8-requires-4 : tie.Need-get8-requires-4
 get8-requires-4 c κs = search needs
 
--- src/rows.rt:50:26
 add-put8 : tie.Need-add-put8
 add-put8 c = search needs
 
--- src/rows.rt:50:5
 put8-requires : tie.Need-put8-requires
 put8-requires c κs = search needs
 
--- src/rows.rt:51:26
 add-put8-2 : tie.Need-add-put8-2
 add-put8-2 c = search needs
 
--- src/rows.rt:51:5
 put8-requires-2 : tie.Need-put8-requires-2
 put8-requires-2 c κs = search needs
 
--- src/rows.rt:52:26
 add-put8-3 : tie.Need-add-put8-3
 add-put8-3 c = search needs
 
--- src/rows.rt:52:5
 put8-requires-3 : tie.Need-put8-requires-3
 put8-requires-3 c κs = search needs
 
--- src/rows.rt:53:26
 add-put8-4 : tie.Need-add-put8-4
 add-put8-4 c = search needs
 
--- src/rows.rt:53:5
 put8-requires-4 : tie.Need-put8-requires-4
 put8-requires-4 c κs = search needs
 
--- src/rows.rt:41:1
 same-length : tie.Need-same-length
 same-length c = search needs
 
--- src/rows.rt:41:1
 returns : tie.Need-returns
-returns c = 
+returns c =
     let c₃ = c .before .before .before .before in
     let c₂ = c₃ .before .before .before .before in
     let c₁ = c₂ .before .before .before .before in

@@ -1,25 +1,18 @@
-use Rattle.refusal.proofs.Tables.{not-run, in-run}
+-- `refusal::not_updates` meets its contract. In run by the rows, else never.
 use borrow.Author.Needs.{needs}
+use Rattle.refusal.proofs.Tables.{not-run, in-run}
 use Rattle.refusal.proofs.not_updates.Statement.{statement}
 use Rattle.refusal.proofs.not_updates.Tie as tie
-use Rattle.refusal.proofs.not_updates.Reads as reads
-use Rattle.refusal.proofs.not_updates.Lts as lts
-use Rattle.state.proofs.is_run.Reads as is-run-reads
-use Rattle.workspace.proofs.all_updates.Reads as all-updates-reads
 
--- src/lib.rt:75:9
 is-run-requires : tie.Need-is-run-requires
 is-run-requires c κs = search needs
 
--- src/lib.rt:77:9
 returns : tie.Need-returns
 returns c = not-run _ _ _ _ (c .before .is-run .ensures) (c .if1 .left)
 
--- src/lib.rt:79:6
 all-updates-requires : tie.Need-all-updates-requires
 all-updates-requires c κs = search needs
 
--- src/lib.rt:71:1
 returns-2 : tie.Need-returns-2
 returns-2 c = in-run _ _ _ _ (c .before .before .is-run .ensures) _ (c .before .if1 .taken) (c .all-updates .ensures)
 

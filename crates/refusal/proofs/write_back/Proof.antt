@@ -1,112 +1,82 @@
+-- `refusal::write_back` meets its contract. The table cut after its first three tests.
+use borrow.Author.Needs.{needs}
+use native.Mathlib.Omega.{arith}
 use Rattle.refusal.proofs.Lengths.{is-lent, back-fits}
 use Rattle.refusal.proofs.Tables.{fit-true, back-early, back-late, cell-inside}
-use native.Mathlib.Omega.{arith}
-use borrow.Author.Needs.{needs}
 use Rattle.refusal.proofs.write_back.Statement.{statement}
 use Rattle.refusal.proofs.write_back.Tie as tie
-use Rattle.refusal.proofs.write_back.Reads as reads
-use Rattle.refusal.proofs.write_back.Lts as lts
-use Rattle.medium.proofs.layout.index.Reads as index-reads
-use Rattle.state.proofs.Numbers.fits_cells.Reads as fits-cells-reads
-use Rattle.state.proofs.Numbers.fits_medium.Reads as fits-medium-reads
-use Rattle.state.proofs.Numbers.sound.Reads as sound-reads
-use Rattle.state.proofs.both.Reads as both-reads
-use Rattle.state.proofs.is_recovering.Reads as is-recovering-reads
-use Rattle.state.proofs.refuse.Reads as refuse-reads
 
--- src/lib.rt:134:23
 fits-cells-requires : tie.Need-fits-cells-requires
 fits-cells-requires c κs = search needs
 
--- src/lib.rt:134:56
 fits-cells-requires-2 : tie.Need-fits-cells-requires-2
 fits-cells-requires-2 c κs = search needs
 
--- src/lib.rt:134:9
 both-requires : tie.Need-both-requires
 both-requires c κs = search needs
 
--- src/lib.rt:135:21
 fits-medium-requires : tie.Need-fits-medium-requires
 fits-medium-requires c κs = search needs
 
--- src/lib.rt:135:61
 fits-cells-requires-3 : tie.Need-fits-cells-requires-3
 fits-cells-requires-3 c κs = search needs
 
--- src/lib.rt:135:56
 both-requires-2 : tie.Need-both-requires-2
 both-requires-2 c κs = search needs
 
--- src/lib.rt:135:9
 both-requires-3 : tie.Need-both-requires-3
 both-requires-3 c κs = search needs
 
--- src/lib.rt:136:20
 sound-requires : tie.Need-sound-requires
 sound-requires c κs = search needs
 
--- src/lib.rt:136:9
 both-requires-4 : tie.Need-both-requires-4
 both-requires-4 c κs = search needs
 
--- src/lib.rt:137:37
 is-recovering-requires : tie.Need-is-recovering-requires
 is-recovering-requires c κs = search needs
 
--- src/lib.rt:137:63
 refuse-requires : tie.Need-refuse-requires
 refuse-requires c κs = search needs
 
--- src/lib.rt:137:30
 refuse-requires-2 : tie.Need-refuse-requires-2
 refuse-requires-2 c κs = search needs
 
--- src/lib.rt:137:9
 refuse-requires-3 : tie.Need-refuse-requires-3
 refuse-requires-3 c κs = search needs
 
--- src/lib.rt:139:9
 returns : tie.Need-returns
 returns c = back-early _ _ _ _ _ (c .before .before .before .before .before .before .before .sound .ensures) (c .before .before .before .before .before .is-recovering .ensures) _ _ _ _ _ _ _ _ _ _ _ _ (c .before .before .before .before .before .before .before .before .before .before .before .fits-medium .ensures) (c .before .before .before .before .before .before .before .before .before .before .fits-cells3 .ensures) (c .before .before .before .before .before .before .before .before .before .before .before .before .before .before .fits-cells .ensures) (c .before .before .before .before .before .before .before .before .before .before .before .before .before .fits-cells2 .ensures) (c .before .before .before .before .before .before .before .before .before .before .before .before .both .ensures) (c .before .before .before .before .before .before .before .before .before .both2 .ensures) (c .before .before .before .before .before .before .before .before .both3 .ensures) (c .before .before .before .before .before .before .both4 .ensures) _ _ _ (c .before .before .before .refuse .ensures) (c .before .before .refuse2 .ensures) (c .before .refuse3 .ensures) (c .if1 .taken)
 
--- src/lib.rt:141:9
 index-requires : tie.Need-index-requires
 index-requires c κs = search needs
 
--- src/lib.rt:142:26
 mul-both : tie.Need-mul-both
 mul-both c = search needs
 
--- src/lib.rt:142:26
 shared-slice-read-both : tie.Need-shared-slice-read-both
-shared-slice-read-both c = 
+shared-slice-read-both c =
     let fit = fit-true _ _ _ (c .before .before .before .refuse3 .ensures) (c .before .before .if1 .left) in
     let i = cell-inside (c .before .before .before .before .before .before .before .before .both4 .result) (c .before .before .before .before .before .before .before .is-recovering .result) (c .before .before .before .before .before .before .before .before .before .before .before .before .before .before .before .before .before .before .before .before .before .args .numbers .cells) (c .before .before .before .before .before .before .before .before .before .before .before .before .before .before .before .before .before .before .before .before .before .args .cell) _ _ _ (c .before .before .before .before .before .refuse .ensures) (c .before .before .before .before .refuse2 .ensures) (c .before .before .before .refuse3 .ensures) (c .before .before .if1 .left) in
     let d = back-fits (c .before .before .before .before .before .before .before .before .before .before .before .before .before .before .before .before .before .before .before .before .before .args .numbers .cells) (c .before .before .before .before .before .before .before .before .before .before .before .before .before .before .before .before .before .before .before .before .before .args .first .now) (c .before .before .before .before .before .before .before .before .before .before .before .before .before .before .before .before .before .before .before .before .before .args .last .now) (c .before .before .before .before .before .before .before .before .before .before .before .before .before .fits-medium .result) (c .before .before .before .before .before .before .before .before .before .before .before .before .fits-cells3 .result) _ _ _ _ (c .before .before .before .before .before .before .before .before .before .before .before .before .before .before .before .before .fits-cells .ensures) (c .before .before .before .before .before .before .before .before .before .before .before .before .before .before .before .fits-cells2 .ensures) (c .before .before .before .before .before .before .before .before .before .before .before .before .before .before .both .ensures) (c .before .before .before .before .before .before .before .before .before .before .before .both2 .ensures) _ (c .before .before .before .before .before .before .before .before .before .before .both3 .ensures) (is-lent _ _ _ _ _ (c .before .before .before .before .before .before .before .before .before .sound .ensures) (c .before .before .before .before .before .before .before .before .both4 .ensures) fit) in
     omega (arith, i, d)
 
--- src/lib.rt:142:49
 mul-both-2 : tie.Need-mul-both-2
 mul-both-2 c = search needs
 
--- src/lib.rt:142:49
 shared-slice-read-both-2 : tie.Need-shared-slice-read-both-2
-shared-slice-read-both-2 c = 
+shared-slice-read-both-2 c =
     let fit = fit-true _ _ _ (c .before .before .before .before .refuse3 .ensures) (c .before .before .before .if1 .left) in
     let i = cell-inside (c .before .before .before .before .before .before .before .before .before .both4 .result) (c .before .before .before .before .before .before .before .before .is-recovering .result) (c .before .before .before .before .before .before .before .before .before .before .before .before .before .before .before .before .before .before .before .before .before .before .args .numbers .cells) (c .before .before .before .before .before .before .before .before .before .before .before .before .before .before .before .before .before .before .before .before .before .before .args .cell) _ _ _ (c .before .before .before .before .before .before .refuse .ensures) (c .before .before .before .before .before .refuse2 .ensures) (c .before .before .before .before .refuse3 .ensures) (c .before .before .before .if1 .left) in
     let d = back-fits (c .before .before .before .before .before .before .before .before .before .before .before .before .before .before .before .before .before .before .before .before .before .before .args .numbers .cells) (c .before .before .before .before .before .before .before .before .before .before .before .before .before .before .before .before .before .before .before .before .before .before .args .first .now) (c .before .before .before .before .before .before .before .before .before .before .before .before .before .before .before .before .before .before .before .before .before .before .args .last .now) (c .before .before .before .before .before .before .before .before .before .before .before .before .before .before .fits-medium .result) (c .before .before .before .before .before .before .before .before .before .before .before .before .before .fits-cells3 .result) _ _ _ _ (c .before .before .before .before .before .before .before .before .before .before .before .before .before .before .before .before .before .fits-cells .ensures) (c .before .before .before .before .before .before .before .before .before .before .before .before .before .before .before .before .fits-cells2 .ensures) (c .before .before .before .before .before .before .before .before .before .before .before .before .before .before .before .both .ensures) (c .before .before .before .before .before .before .before .before .before .before .before .before .both2 .ensures) _ (c .before .before .before .before .before .before .before .before .before .before .before .both3 .ensures) (is-lent _ _ _ _ _ (c .before .before .before .before .before .before .before .before .before .before .sound .ensures) (c .before .before .before .before .before .before .before .before .before .both4 .ensures) fit) in
     omega (arith, i, d)
 
--- src/lib.rt:142:9
 both-requires-5 : tie.Need-both-requires-5
 both-requires-5 c κs = search needs
 
--- src/lib.rt:143:5
 refuse-requires-4 : tie.Need-refuse-requires-4
 refuse-requires-4 c κs = search needs
 
--- src/lib.rt:123:1
 returns-2 : tie.Need-returns-2
 returns-2 c = back-late _ _ _ _ _ (c .before .before .before .before .before .before .before .before .before .before .before .before .before .sound .ensures) (c .before .before .before .before .before .before .before .before .before .before .before .is-recovering .ensures) _ _ _ _ _ _ _ _ _ _ _ _ (c .before .before .before .before .before .before .before .before .before .before .before .before .before .before .before .before .before .fits-medium .ensures) (c .before .before .before .before .before .before .before .before .before .before .before .before .before .before .before .before .fits-cells3 .ensures) (c .before .before .before .before .before .before .before .before .before .before .before .before .before .before .before .before .before .before .before .before .fits-cells .ensures) (c .before .before .before .before .before .before .before .before .before .before .before .before .before .before .before .before .before .before .before .fits-cells2 .ensures) (c .before .before .before .before .before .before .before .before .before .before .before .before .before .before .before .before .before .before .both .ensures) (c .before .before .before .before .before .before .before .before .before .before .before .before .before .before .before .both2 .ensures) (c .before .before .before .before .before .before .before .before .before .before .before .before .before .before .both3 .ensures) (c .before .before .before .before .before .before .before .before .before .before .before .before .both4 .ensures) _ _ _ (c .before .before .before .before .before .before .before .before .before .refuse .ensures) (c .before .before .before .before .before .before .before .before .refuse2 .ensures) (c .before .before .before .before .before .before .before .refuse3 .ensures) _ _ _ (c .before .before .before .before .before .before .if1 .left) (c .before .before .before .before .before .index .ensures .0) (c .before .both5 .ensures) (c .refuse4 .ensures)
 

@@ -1,41 +1,31 @@
+-- `row::of_kind` meets its contract. Each kind is a case of the definition.
+use borrow.Author.Needs.{needs}
 use native.Mathlib.Omega.{arith}
 use Rattle.row.proofs.Reading.{of-update, of-commit, of-abort, of-laden, of-unknown}
-use borrow.Author.Needs.{needs}
 use Rattle.row.proofs.of_kind.Statement.{statement}
 use Rattle.row.proofs.of_kind.Tie as tie
-use Rattle.row.proofs.of_kind.Reads as reads
-use Rattle.row.proofs.of_kind.Lts as lts
-use Rattle.row.proofs.bare.Reads as bare-reads
 
--- src/lib.rt:47:9
 bare-requires : tie.Need-bare-requires
 bare-requires c κs = search needs
 
--- src/lib.rt:52:17
 returns : tie.Need-returns
 returns c = of-commit _ _ _ _ _ (c .before .before .bare .ensures) (c .if1 .taken) (omega arith)
 
--- src/lib.rt:58:17
 returns-2 : tie.Need-returns-2
 returns-2 c = of-abort _ _ _ _ _ (c .before .before .bare .ensures) (c .if2 .taken) (omega arith)
 
--- src/lib.rt:44:1
 returns-3 : tie.Need-returns-3
 returns-3 c = of-update _ _ _ _ (omega arith)
 
--- src/lib.rt:44:1
 returns-4 : tie.Need-returns-4
 returns-4 c = of-laden _ _ _ _ _ (c .before .before .bare .ensures) (c .if1 .left) (omega arith)
 
--- src/lib.rt:44:1
 returns-5 : tie.Need-returns-5
 returns-5 c = of-laden _ _ _ _ _ (c .before .before .bare .ensures) (c .if2 .left) (omega arith)
 
--- src/lib.rt:44:1
 returns-6 : tie.Need-returns-6
 returns-6 c = of-unknown _ _ _ _ (omega arith) (omega arith) (omega arith)
 
--- src/lib.rt:44:1
 returns-7 : tie.Need-returns-7
 returns-7 c = of-unknown _ _ _ _ (omega arith) (omega arith) (omega arith)
 

@@ -1,29 +1,22 @@
+-- `row::write_row` meets its contract. Each exit is a case of the definition.
+use borrow.Author.Needs.{needs}
 use native.Mathlib.Omega.{arith}
 use Rattle.row.proofs.Writing.{write-short, write-zero, write-entry}
-use borrow.Author.Needs.{needs}
 use Rattle.row.proofs.write_row.Statement.{statement}
 use Rattle.row.proofs.write_row.Tie as tie
-use Rattle.row.proofs.write_row.Reads as reads
-use Rattle.row.proofs.write_row.Lts as lts
-use Rattle.row.proofs.put_entry.Reads as put-entry-reads
 
--- src/lib.rt:109:9
 returns : tie.Need-returns
 returns c = write-short _ _ _ (omega arith)
 
--- src/lib.rt:112:9
 returns-2 : tie.Need-returns-2
 returns-2 c = write-zero _ _ _ (omega arith) (omega arith)
 
--- src/lib.rt:114:5
 put-entry-requires : tie.Need-put-entry-requires
 put-entry-requires c κs = search needs
 
--- src/lib.rt:104:1
 same-length : tie.Need-same-length
 same-length c = search needs
 
--- src/lib.rt:104:1
 returns-3 : tie.Need-returns-3
 returns-3 c = write-entry _ _ _ _ (omega arith) (omega arith) (c .before .before .put-entry .ensures)
 

@@ -1,15 +1,13 @@
-use Rattle.workspace.specs.Desk.{updatesFrom}
-use Rattle.journal.specs.Entries.{entryIn}
-use mathlib.Core.Path.{_≡_, refl}
+-- `workspace::all_updates` meets its contract. The rows that remain decide what all decide.
 use Prim.Native.Nat.{_-_, _≤_}
 use borrow.Author.Needs.{needs}
+use mathlib.Core.Path.{_≡_, refl}
 use native.Mathlib.Omega.{arith}
+use Rattle.journal.specs.Entries.{entryIn}
 use Rattle.workspace.proofs.Restoring.{updates-again, updates-stop, updates-end}
+use Rattle.workspace.specs.Desk.{updatesFrom}
 use Rattle.workspace.proofs.all_updates.Statement.{statement}
 use Rattle.workspace.proofs.all_updates.Tie as tie
-use Rattle.workspace.proofs.all_updates.Reads as reads
-use Rattle.workspace.proofs.all_updates.Lts as lts
-use Rattle.workspace.proofs.is_update.Reads as is-update-reads
 
 abbrev Inv-loop : tie.InvT-loop
 Inv-loop waiting slots cells o l m₀ m = (m ≤ l) × (updatesFrom (entryIn waiting 0 slots cells) (l - o) l ≡ updatesFrom (entryIn waiting 0 slots cells) (m - o) m)
@@ -17,31 +15,24 @@ Inv-loop waiting slots cells o l m₀ m = (m ≤ l) × (updatesFrom (entryIn wai
 abbrev μ-loop : tie.MeasureT-loop
 μ-loop waiting slots cells o l m₀ m = m
 
--- src/lib.rt:98:5
 loop-holds : tie.Need-loop-holds Inv-loop μ-loop
 loop-holds c = (omega arith, refl)
 
--- src/lib.rt:99:13
 is-update-requires : tie.Need-is-update-requires Inv-loop μ-loop
 is-update-requires c κs = search needs
 
--- src/lib.rt:101:13
 returns : tie.Need-returns Inv-loop μ-loop
 returns c = updates-stop _ _ _ _ (c .before .before .before .loop .inv .1) _ (omega arith) (c .before .is-update .ensures) (c .if1 .left)
 
--- src/lib.rt:103:9
 sub-m : tie.Need-sub-m Inv-loop μ-loop
 sub-m c = omega arith
 
--- src/lib.rt:98:5
 loop-less : tie.Need-loop-less Inv-loop μ-loop
 loop-less c = omega arith
 
--- src/lib.rt:98:5
 loop-again : tie.Need-loop-again Inv-loop μ-loop
 loop-again c = (omega arith, updates-again _ _ _ _ (c .before .before .before .loop .inv .1) _ (omega arith) (c .before .is-update .ensures) (c .if1 .taken))
 
--- src/lib.rt:93:1
 returns-2 : tie.Need-returns-2 Inv-loop μ-loop
 returns-2 c = updates-end _ _ _ _ (c .before .loop .inv .1) (omega arith)
 

@@ -1,15 +1,14 @@
-use mathlib.Core.Logic.{⊎-elim}
-use Rattle.scope.specs.Refusals.{anyFirst}
-use lib.ListN.{length, drop}
-use mathlib.Core.Path.{_≡_, refl}
+-- `workspace::any_first` meets its contract. The cells that remain decide what all decide.
 use Prim.Native.Nat.{_-_, _≤_}
 use borrow.Author.Needs.{needs}
+use lib.ListN.{length, drop}
+use mathlib.Core.Logic.{⊎-elim}
+use mathlib.Core.Path.{_≡_, refl}
 use native.Mathlib.Omega.{arith}
+use Rattle.scope.specs.Refusals.{anyFirst}
 use Rattle.workspace.proofs.Restoring.{first-found, first-zero, first-above, first-end}
 use Rattle.workspace.proofs.any_first.Statement.{statement}
 use Rattle.workspace.proofs.any_first.Tie as tie
-use Rattle.workspace.proofs.any_first.Reads as reads
-use Rattle.workspace.proofs.any_first.Lts as lts
 
 abbrev Inv-loop : tie.InvT-loop
 Inv-loop first p i₀ i = (i ≤ length first) × (anyFirst p first ≡ anyFirst p (drop i first))
@@ -17,41 +16,33 @@ Inv-loop first p i₀ i = (i ≤ length first) × (anyFirst p first ≡ anyFirst
 abbrev μ-loop : tie.MeasureT-loop
 μ-loop first p i₀ i = length first - i
 
--- src/lib.rt:113:5
 loop-holds : tie.Need-loop-holds Inv-loop μ-loop
 loop-holds c = (omega arith, refl)
 
--- src/lib.rt:114:20
 mul-mark : tie.Need-mul-mark Inv-loop μ-loop
 mul-mark c = search needs
 
--- src/lib.rt:114:20
 shared-slice-read-mark : tie.Need-shared-slice-read-mark Inv-loop μ-loop
 shared-slice-read-mark c = search needs
 
--- src/lib.rt:117:17
 returns : tie.Need-returns Inv-loop μ-loop
 returns c = let b = c .before .before .before .before in first-found (b .before .args .p) (b .before .args .first .now) _ (b .loop .i) (b .loop .inv .1) (omega arith) (omega arith) (omega arith)
 
--- src/lib.rt:120:9
 add-i : tie.Need-add-i Inv-loop μ-loop
 add-i c = omega arith
 
--- src/lib.rt:113:5
 loop-less : tie.Need-loop-less Inv-loop μ-loop
 loop-less c = omega arith
 
--- src/lib.rt:113:5
 loop-again : tie.Need-loop-again Inv-loop μ-loop
-loop-again c = 
+loop-again c =
     let b = c .before .before .before in (
       omega arith,
       ⊎-elim (λ w. first-above (b .before .args .p) (b .before .args .first .now) _ (b .loop .i) (b .loop .inv .1) (omega arith) (omega arith) (omega arith))
-      (λ w. first-zero (b .before .args .p) (b .before .args .first .now) _ (b .loop .i) (b .loop .inv .1) (omega arith) (omega arith))
-      (c .if1 .came),
+          (λ w. first-zero (b .before .args .p) (b .before .args .first .now) _ (b .loop .i) (b .loop .inv .1) (omega arith) (omega arith))
+          (c .if1 .came),
     )
 
--- src/lib.rt:109:1
 returns-2 : tie.Need-returns-2 Inv-loop μ-loop
 returns-2 c = let b = c .before in first-end (b .before .args .p) (b .before .args .first .now) _ (b .loop .i) (b .loop .inv .1) (omega arith)
 

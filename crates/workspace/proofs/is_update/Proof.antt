@@ -1,35 +1,27 @@
-use Rattle.workspace.proofs.Restoring.{nothing-is, end-is, update-is, update-true}
+-- `workspace::is_update` meets its contract. By what the row reads as.
 use borrow.Author.Needs.{needs}
+use Rattle.workspace.proofs.Restoring.{nothing-is, end-is, update-is, update-true}
 use Rattle.workspace.proofs.is_update.Statement.{statement}
 use Rattle.workspace.proofs.is_update.Tie as tie
-use Rattle.workspace.proofs.is_update.Reads as reads
-use Rattle.workspace.proofs.is_update.Lts as lts
-use Rattle.journal.proofs.entry_at.Reads as entry-at-reads
 
--- src/lib.rt:83:28
 entry-at-requires : tie.Need-entry-at-requires
 entry-at-requires c κs = search needs
 
--- src/lib.rt:83:20
 enum-known-what : tie.Need-enum-known-what
 enum-known-what c = search needs
 
--- src/lib.rt:84:9
 enum-told : tie.Need-enum-told
 enum-told c = search needs
 
--- src/lib.rt:84:9
 returns : tie.Need-returns
 returns c = nothing-is _ _ (c .before .before .entry-at .ensures) (c .enum-told .given .1)
 
 enum-told-2 : tie.Need-enum-told-2
 enum-told-2 c = search needs
 
--- src/lib.rt:87:9
 returns-2 : tie.Need-returns-2
 returns-2 c = end-is _ _ (c .before .before .before .before .entry-at .ensures) _ (c .before .before .what .given .1) (c .match2 .keys2)
 
--- src/lib.rt:79:1
 returns-3 : tie.Need-returns-3
 returns-3 c = update-true _ _ _ _ (update-is _ _ (c .before .before .before .before .before .entry-at .ensures) _ (c .before .before .before .what .given .1) _ _ _ (c .enum-told2 .given .1))
 

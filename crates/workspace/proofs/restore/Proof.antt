@@ -1,59 +1,45 @@
+-- `workspace::restore` meets its contract. By what the row reads as; an update that reads has its cell in the table.
+use borrow.Author.Needs.{needs}
 use native.Mathlib.Omega.{arith}
 use Rattle.workspace.proofs.Restoring.{nothing-is, end-is, update-is, cell-below, restore-other, restore-update}
-use borrow.Author.Needs.{needs}
 use Rattle.workspace.proofs.restore.Statement.{statement}
 use Rattle.workspace.proofs.restore.Tie as tie
-use Rattle.workspace.proofs.restore.Reads as reads
-use Rattle.workspace.proofs.restore.Lts as lts
-use Rattle.journal.proofs.entry_at.Reads as entry-at-reads
-use Rattle.workspace.proofs.assign.Reads as assign-reads
 
--- src/lib.rt:47:28
 entry-at-requires : tie.Need-entry-at-requires
 entry-at-requires c κs = search needs
 
--- src/lib.rt:47:20
 enum-known-what : tie.Need-enum-known-what
 enum-known-what c = search needs
 
--- src/lib.rt:48:9
 enum-told : tie.Need-enum-told
 enum-told c = search needs
 
--- src/lib.rt:48:9
 returns : tie.Need-returns
 returns c = restore-other _ _ _ (nothing-is _ _ (c .before .before .entry-at .ensures) (c .enum-told .given .1))
 
--- src/lib.rt:50:25
 enum-known-what-2 : tie.Need-enum-known-what-2
 enum-known-what-2 c = search needs
 
--- src/lib.rt:51:9
 returns-2 : tie.Need-returns-2
 returns-2 c = restore-other _ _ _ (end-is _ _ (c .before .before .before .before .entry-at .ensures) _ (c .before .before .what .given .1) (c .match2 .keys2))
 
--- src/lib.rt:53:5
 assign-requires : tie.Need-assign-requires
-assign-requires c κs = 
+assign-requires c κs =
     let d = c .before .before .before .before in
     let u = update-is _ _ (d .before .before .before .before .before .entry-at .ensures) _ (d .before .before .before .what .given .1) _ _ _ (d .what2 .given .1) in
     omega (arith, cell-below _ _ _ _ _ _ _ _ u)
 
--- src/lib.rt:34:1
 same-length : tie.Need-same-length
 same-length c = search needs
 
--- src/lib.rt:34:1
 same-length-2 : tie.Need-same-length-2
 same-length-2 c = search needs
 
--- src/lib.rt:34:1
 same-length-3 : tie.Need-same-length-3
 same-length-3 c = search needs
 
--- src/lib.rt:34:1
 returns-3 : tie.Need-returns-3
-returns-3 c = 
+returns-3 c =
     let d = c .before .before .before .before .before .before .before .before .before .before .before in
     restore-update _ _ _ _ _ _ _ (update-is _ _ (d .before .before .before .before .before .entry-at .ensures) _ (d .before .before .before .what .given .1) _ _ _ (d .what2 .given .1))
     (c .before .before .before .before .before .before .assign .ensures)

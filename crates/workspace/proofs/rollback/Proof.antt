@@ -1,60 +1,49 @@
-use Rattle.workspace.specs.Desk.{desk, Fits, rolledFrom}
-use Rattle.journal.specs.Entries.{entryIn}
-use mathlib.Core.Path.{_≡_, refl}
+-- `workspace::rollback` meets its contract. The rows that remain, rolled back from here, give what all give from the start.
 use Prim.Native.Nat.{_-_, _≤_}
 use borrow.Author.Needs.{needs}
+use mathlib.Core.Path.{_≡_, refl}
 use native.Mathlib.Omega.{arith}
+use Rattle.journal.specs.Entries.{entryIn}
 use Rattle.workspace.proofs.Restoring.{roll-again, roll-end}
+use Rattle.workspace.specs.Desk.{desk, Fits, rolledFrom}
 use Rattle.workspace.proofs.rollback.Statement.{statement}
 use Rattle.workspace.proofs.rollback.Tie as tie
-use Rattle.workspace.proofs.rollback.Reads as reads
-use Rattle.workspace.proofs.rollback.Lts as lts
-use Rattle.workspace.proofs.restore.Reads as restore-reads
 
 abbrev Inv-loop : tie.InvT-loop
-Inv-loop waiting slots cells o l n current₀ first₀ last₀ m₀ current first last m = 
+Inv-loop waiting slots cells o l n current₀ first₀ last₀ m₀ current first last m =
     Fits cells current first last × (m ≤ l)
     × (rolledFrom (entryIn waiting 0 slots cells) n (l - o) l (desk current₀ first₀ last₀) ≡ rolledFrom (entryIn waiting 0 slots cells) n (m - o) m (desk current first last))
 
 abbrev μ-loop : tie.MeasureT-loop
 μ-loop waiting slots cells o l n current₀ first₀ last₀ m₀ current first last m = m
 
--- src/lib.rt:72:5
 loop-holds : tie.Need-loop-holds Inv-loop μ-loop
 loop-holds c = (c .before .before .before .before .pre .1, omega arith, refl)
 
--- src/lib.rt:73:9
 restore-requires : tie.Need-restore-requires Inv-loop μ-loop
 restore-requires c κs = search needs
 
--- src/lib.rt:74:9
 sub-m : tie.Need-sub-m Inv-loop μ-loop
 sub-m c = omega arith
 
--- src/lib.rt:72:5
 loop-less : tie.Need-loop-less Inv-loop μ-loop
 loop-less c = omega arith
 
--- src/lib.rt:72:5
 loop-again : tie.Need-loop-again Inv-loop μ-loop
-loop-again c = 
+loop-again c =
     let d = c .before .before .before .before .before .before in
     let b = d .before .before .before .before .before in
     (search needs, omega arith, roll-again _ _ _ _ _ _ _ (b .loop .inv .2) (omega arith) (d .restore .ensures))
 
--- src/lib.rt:57:1
 same-length : tie.Need-same-length Inv-loop μ-loop
 same-length c = search needs
 
--- src/lib.rt:57:1
 same-length-2 : tie.Need-same-length-2 Inv-loop μ-loop
 same-length-2 c = search needs
 
--- src/lib.rt:57:1
 same-length-3 : tie.Need-same-length-3 Inv-loop μ-loop
 same-length-3 c = search needs
 
--- src/lib.rt:57:1
 returns : tie.Need-returns Inv-loop μ-loop
 returns c = roll-end _ _ _ _ _ _ (c .before .loop .inv .2) (omega arith)
 
