@@ -1,0 +1,89 @@
+-- `look` is the papers' part: one law for each way that it ends; a look that isn't refused has its entry's row in both buffers.
+use borrow.Author.Needs.{needs}
+use native.Mathlib.Omega.{arith}
+use Rattle.keeper.proofs.LookLaws.{looking, no-part, medium-part, waiting-part}
+use Rattle.keeper.proofs.State.look.Statement.{statement}
+use Rattle.keeper.proofs.State.look.Tie as tie
+
+look-requires : tie.Need-look-requires
+look-requires c κs = search needs
+
+sub-result : tie.Need-sub-result
+sub-result c = search needs
+
+part-result-start : tie.Need-part-result-start
+part-result-start c = search needs
+
+part-result-end : tie.Need-part-result-end
+part-result-end c = search needs
+
+returns : tie.Need-returns
+returns c = no-part (c .before .before .before .before .before .before .args .self) _ _ _ _ (c .before .before .look .ensures) (omega arith)
+
+row-at-requires : tie.Need-row-at-requires
+row-at-requires c κs = let l = looking (c .before .before .before .before .before .args .self) _ _ _ _ (c .before .look .ensures) (omega arith) in (l .some-slots, l .numbered)
+
+add-at : tie.Need-add-at
+add-at c = search needs
+
+add-end : tie.Need-add-end
+add-end c = search needs
+
+sub-result-2 : tie.Need-sub-result-2
+sub-result-2 c = search needs
+
+part-result-start-2 : tie.Need-part-result-start-2
+part-result-start-2 c = search needs
+
+part-result-end-2 : tie.Need-part-result-end-2
+part-result-end-2 c =
+    let d = c .before .before .before in
+    let l = looking (d .before .before .before .before .before .args .self) _ _ _ _ (d .before .look .ensures) (omega arith) in
+    omega arith
+
+returns-2 : tie.Need-returns-2
+returns-2 c =
+    let d = c .before .before .before .before in
+    medium-part (d .before .before .before .before .before .args .self) _ _ _ _ (d .before .look .ensures) (omega arith) _ (c .before .before .before .row-at .ensures .0) (omega arith)
+
+add-end-2 : tie.Need-add-end-2
+add-end-2 c = search needs
+
+sub-result-3 : tie.Need-sub-result-3
+sub-result-3 c = search needs
+
+part-result-start-3 : tie.Need-part-result-start-3
+part-result-start-3 c = search needs
+
+part-result-end-3 : tie.Need-part-result-end-3
+part-result-end-3 c =
+    let d = c .before .before .before in
+    let l = looking (d .before .before .before .before .before .args .self) _ _ _ _ (d .before .look .ensures) (omega arith) in
+    omega arith
+
+returns-3 : tie.Need-returns-3
+returns-3 c =
+    let d = c .before .before .before .before in
+    waiting-part (d .before .before .before .before .before .args .self) _ _ _ _ (d .before .look .ensures) (omega arith) _ (c .before .before .before .row-at .ensures .0) (omega arith)
+
+pub look-spec : {M : Type 1} → statement M
+look-spec =
+    tie.close
+    (tie.spec
+    look-requires
+    sub-result
+    part-result-start
+    part-result-end
+    returns
+    row-at-requires
+    add-at
+    add-end
+    sub-result-2
+    part-result-start-2
+    part-result-end-2
+    returns-2
+    add-end-2
+    sub-result-3
+    part-result-start-3
+    part-result-end-3
+    returns-3)

@@ -1,0 +1,143 @@
+-- What begin, read, write, commit and abort leave where they are done: the definition's record, field by field.
+use Prim.Native.Nat.{ℕ, _+_, _-_, _*_, _≤_, _<_}
+use mathlib.Core.Path.{_≡_, refl, sym, ap, _∙_}
+use mathlib.Core.Bool.{Bool, true, false}
+use mathlib.Core.List.{List, []}
+use lib.ListN.{length, getD}
+use Rattle.scope.specs.Bytes.{pick, put}
+use Rattle.scope.specs.Row.{Entry, update, commitEntry, abortEntry, rowBytes}
+use Rattle.scope.specs.Keeper.{Keeper, Outcome, Phase, idle, run, done, refused, isRun, rowAt, withState, withWaiting, madeTo, assign, append}
+use Rattle.scope.specs.Recovery.{rollback}
+use Rattle.scope.specs.Refusals.{Call, Begin, Read, Write, Commit, Abort, refusal}
+use Rattle.scope.specs.Calls.{begin, read, write, commit, abort, rolledBack}
+use Rattle.state.specs.State.{phaseOf, stateOf}
+use Rattle.state.specs.declared.Numbers.{Numbers}
+use Rattle.state.specs.declared.Phase as code
+use Rattle.state.specs.declared.Phase.the-variants.{Idle, Run, Recovering}
+use Rattle.row.specs.Row.{entry}
+use Rattle.row.specs.declared.Entry.the-variants as what
+use Rattle.journal.specs.Entries.{entryIn}
+use Rattle.workspace.specs.Desk.{Desk, desk, assigned, rolledFrom}
+use Rattle.workspace.proofs.Desks.{withDesk, rollback-desk}
+use Rattle.refusal.specs.Lent.{lentTo}
+use Rattle.keeper.specs.Answers.{answered, handed, leaves}
+use Rattle.keeper.specs.declared.State.{State}
+use Rattle.keeper.specs.declared.Outcome as result
+use Rattle.keeper.specs.declared.Answer.the-variants.{Done, Refused}
+use Rattle.keeper.proofs.Unless.{unless-refused, unless-done, refused-leaves}
+
+module _ (s : State) (r : result.Outcome) (number : ℕ) where
+  -- read
+
+  module _ (cell : ℕ) (current : List ℕ) (e : number ≡ refusal (Read cell) (lentTo (s .numbers) (s .phase) [] current [] [] [])) where
+    pub read-refused : r ≡ record { answer = Refused number; state = s } → (number ≡ 0 → ⊥)
+        → leaves (answered (r .answer)) (r .state) [] current [] [] [] ≡ read cell (handed s [] current [] [] [])
+    unfolding read
+    read-refused q h = refused-leaves (Read cell) s [] current [] [] [] _ r number e q h
+
+    pub read-done : (at v : ℕ) → at ≡ cell → v ≡ getD current at 0 → r ≡ record { answer = Done v; state = record { numbers = s .numbers; phase = s .phase } } → number ≡ 0
+        → leaves (answered (r .answer)) (r .state) [] current [] [] [] ≡ read cell (handed s [] current [] [] [])
+    unfolding read leaves handed lentTo
+    read-done at v p q f z = rw (f, q, p) (unless-done (Read cell) (lentTo (s .numbers) (s .phase) [] current [] [] []) _ number e z)
+
+  -- commit
+
+  module _ (waiting : List ℕ) (e : number ≡ refusal Commit (lentTo (s .numbers) (s .phase) [] [] [] [] waiting)) where
+    pub commit-refused : r ≡ record { answer = Refused number; state = s } → (number ≡ 0 → ⊥)
+        → leaves (answered (r .answer)) (r .state) [] [] [] [] waiting ≡ commit (handed s [] [] [] [] waiting)
+    unfolding commit
+    commit-refused q h = refused-leaves Commit s [] [] [] [] waiting _ r number e q h
+
+    pub commit-done : (n : ℕ) (w : List ℕ) (m : Numbers) → n ≡ s .numbers .l + 1 → w ≡ put waiting (rowAt (s .numbers .slots) n) (rowBytes n (entry what.Commit))
+        → m ≡ record { cells = s .numbers .cells; slots = s .numbers .slots; h = s .numbers .h; f = s .numbers .f; l = n; o = n }
+        → r ≡ record { answer = Done n; state = record { numbers = m; phase = Idle } } → number ≡ 0
+        → leaves (answered (r .answer)) (r .state) [] [] [] [] w ≡ commit (handed s [] [] [] [] waiting)
+    unfolding commit leaves handed lentTo stateOf withState withWaiting madeTo append
+    commit-done n w m p q g f z = rw (f, g, q, p) (unless-done Commit (lentTo (s .numbers) (s .phase) [] [] [] [] waiting) _ number e z)
+
+  -- write, abort and begin
+
+  module _ (current first last waiting : List ℕ) where
+    module _ (cell value : ℕ) (e : (v : ℕ) → number ≡ refusal (Write cell v) (lentTo (s .numbers) (s .phase) [] current first last waiting)) where
+      pub write-refused : r ≡ record { answer = Refused number; state = s } → (number ≡ 0 → ⊥)
+          → leaves (answered (r .answer)) (r .state) [] current first last waiting ≡ write cell value (handed s [] current first last waiting)
+      unfolding write
+      write-refused q h = refused-leaves (Write cell value) s [] current first last waiting _ r number (e value) q h
+
+      pub write-done : (n at old : ℕ) (c f l w : List ℕ) (m : Numbers) → n ≡ s .numbers .l + 1 → at ≡ cell → old ≡ getD current at 0
+          → w ≡ put waiting (rowAt (s .numbers .slots) n) (rowBytes n (entry (what.Update cell old value))) → desk c f l ≡ assigned n cell value (desk current first last)
+          → m ≡ record { cells = s .numbers .cells; slots = s .numbers .slots; h = s .numbers .h; f = s .numbers .f; l = n; o = s .numbers .o }
+          → r ≡ record { answer = Done 0; state = record { numbers = m; phase = Run } } → number ≡ 0
+          → leaves (answered (r .answer)) (r .state) [] c f l w ≡ write cell value (handed s [] current first last waiting)
+      unfolding write leaves handed lentTo stateOf withState withWaiting madeTo append assign assigned desk
+      write-done n at old c f l w m p a o q d g x z =
+          rw (x, g, q, o, a, p)
+          (ap (λ (y : Desk). record { answer = done 0; keeper = lentTo (record { cells = s .numbers .cells; slots = s .numbers .slots; h = s .numbers .h; f = s .numbers .f; l = s .numbers .l + 1; o = s .numbers .o }) Run [] (y .current) (y .first) (y .last) (put waiting (rowAt (s .numbers .slots) (s .numbers .l + 1)) (rowBytes (s .numbers .l + 1) (update cell (getD current cell 0) value))) })
+          (d ∙ ap (λ i. assigned i cell value (desk current first last)) p)
+          ∙ unless-done (Write cell value) (lentTo (s .numbers) (s .phase) [] current first last waiting) _ number (e value) z)
+
+    -- the abort entry appended and the rows rolled back
+    pub roll-done : (next : code.Phase) (n : ℕ) (c f l w : List ℕ) (m : Numbers) → n ≡ s .numbers .l + 1
+        → w ≡ put waiting (rowAt (s .numbers .slots) n) (rowBytes n (entry what.Abort))
+        → desk c f l ≡ rolledFrom (entryIn w 0 (s .numbers .slots) (s .numbers .cells)) n (s .numbers .l - s .numbers .o) (s .numbers .l) (desk current first last)
+        → m ≡ record { cells = s .numbers .cells; slots = s .numbers .slots; h = s .numbers .h; f = s .numbers .f; l = n; o = n }
+        → r ≡ record { answer = Done 0; state = record { numbers = m; phase = next } }
+        → leaves (answered (r .answer)) (r .state) [] c f l w ≡ record { answer = done 0; keeper = rolledBack (phaseOf next) (handed s [] current first last waiting) }
+    unfolding rolledBack leaves handed lentTo stateOf withState withWaiting madeTo append desk
+    roll-done next n c f l w m p q d g x =
+        let i = s .numbers .l + 1 in
+        let v = put waiting (rowAt (s .numbers .slots) i) (rowBytes i abortEntry) in
+        let j = append abortEntry (handed s [] current first last waiting) in
+        let to = madeTo i i (phaseOf next) (stateOf (s .numbers) (s .phase)) in
+        let d′ : desk c f l ≡ rolledFrom (entryIn v 0 (s .numbers .slots) (s .numbers .cells)) i (s .numbers .l - s .numbers .o) (s .numbers .l) (desk current first last) =
+        d ∙ rw (q, p) in
+        rw (x, g, q, p)
+        (ap (λ (y : Desk). record { answer = done 0; keeper = withState to (withDesk j y) }) d′
+        ∙ ap (λ (y : Keeper). record { answer = done 0; keeper = withState to y }) (rollback-desk j i (s .numbers .l - s .numbers .o) (s .numbers .l) (desk current first last)))
+
+    module _ (e : number ≡ refusal Abort (lentTo (s .numbers) (s .phase) [] current first last waiting)) where
+      pub abort-refused : r ≡ record { answer = Refused number; state = s } → (number ≡ 0 → ⊥)
+          → leaves (answered (r .answer)) (r .state) [] current first last waiting ≡ abort (handed s [] current first last waiting)
+      unfolding abort
+      abort-refused q h = refused-leaves Abort s [] current first last waiting _ r number e q h
+
+      module _ (z : number ≡ 0) (b : Bool) (bb : b ≡ isRun (phaseOf (s .phase))) where
+        pub abort-run : (o : Outcome) → b ≡ true → o ≡ record { answer = done 0; keeper = rolledBack idle (handed s [] current first last waiting) }
+            → o ≡ abort (handed s [] current first last waiting)
+        unfolding abort handed lentTo stateOf
+        abort-run o y q =
+            q ∙ ap (λ x. record { answer = done 0; keeper = pick x (rolledBack idle (handed s [] current first last waiting)) (handed s [] current first last waiting) }) (sym y ∙ bb)
+            ∙ unless-done Abort (lentTo (s .numbers) (s .phase) [] current first last waiting) _ number e z
+
+        pub abort-idle : b ≡ false → r ≡ record { answer = Done 0; state = record { numbers = s .numbers; phase = s .phase } }
+            → leaves (answered (r .answer)) (r .state) [] current first last waiting ≡ abort (handed s [] current first last waiting)
+        unfolding abort leaves handed lentTo stateOf
+        abort-idle y q =
+            rw q (ap (λ x. record { answer = done 0; keeper = pick x (rolledBack idle (handed s [] current first last waiting)) (handed s [] current first last waiting) }) (sym y ∙ bb)
+            ∙ unless-done Abort (lentTo (s .numbers) (s .phase) [] current first last waiting) _ number e z)
+
+    module _ (e : number ≡ refusal Begin (lentTo (s .numbers) (s .phase) [] current first last waiting)) where
+      pub begin-refused : r ≡ record { answer = Refused number; state = s } → (number ≡ 0 → ⊥)
+          → leaves (answered (r .answer)) (r .state) [] current first last waiting ≡ begin (handed s [] current first last waiting)
+      unfolding begin
+      begin-refused q h = refused-leaves Begin s [] current first last waiting _ r number e q h
+
+      module _ (z : number ≡ 0) (b : Bool) (bb : b ≡ isRun (phaseOf (s .phase))) where
+        opened : Keeper
+        opened = withState (madeTo (s .numbers .l) (s .numbers .l) run (stateOf (s .numbers) (s .phase))) (handed s [] current first last waiting)
+
+        pub begin-run : (o : Outcome) → b ≡ true → o ≡ record { answer = done 0; keeper = rolledBack run (handed s [] current first last waiting) }
+            → o ≡ begin (handed s [] current first last waiting)
+        unfolding begin handed lentTo stateOf opened
+        begin-run o y q =
+            q ∙ ap (λ x. record { answer = done 0; keeper = pick x (rolledBack run (handed s [] current first last waiting)) opened }) (sym y ∙ bb)
+            ∙ unless-done Begin (lentTo (s .numbers) (s .phase) [] current first last waiting) _ number e z
+
+        pub begin-idle : (m : Numbers) → b ≡ false
+            → m ≡ record { cells = s .numbers .cells; slots = s .numbers .slots; h = s .numbers .h; f = s .numbers .f; l = s .numbers .l; o = s .numbers .l }
+            → r ≡ record { answer = Done 0; state = record { numbers = m; phase = Run } }
+            → leaves (answered (r .answer)) (r .state) [] current first last waiting ≡ begin (handed s [] current first last waiting)
+        unfolding begin leaves handed lentTo stateOf opened withState madeTo
+        begin-idle m y g q =
+            rw (q, g) (ap (λ x. record { answer = done 0; keeper = pick x (rolledBack run (handed s [] current first last waiting)) opened }) (sym y ∙ bb)
+            ∙ unless-done Begin (lentTo (s .numbers) (s .phase) [] current first last waiting) _ number e z)

@@ -1,0 +1,104 @@
+// What reaches the medium: force, write-back, cut. Each makes one store at most.
+ghost use mathlib.Core.Path.{_≡_};
+ghost use mathlib.Core.List.{[]};
+ghost use Prim.Native.Nat.{_+_, _*_, _<_, _≤_};
+ghost use lib.ListN.{length};
+ghost use Rattle.scope.specs.Calls.{force, writeBack, cut};
+ghost use Rattle.keeper.specs.Answers.{answered, writtenBack, handed, leaves};
+use crate::Back;
+use crate::Outcome;
+use crate::State;
+use crate::WrittenBack;
+use crate::done;
+use crate::refused;
+use medium::head::store_head;
+use medium::layout::index;
+use medium::table::store_cell;
+use state::Numbers;
+
+impl State {
+    // Force: stores entry f+1 from the waiting rows and answers its number; with f = l it stores nothing and answers 0.
+    // Refuses 1, 10, 7. Costs one row; stores that row.
+    pub fn force(self, medium: &mut [u8], waiting: &[u8]) -> Outcome
+        ensures { λ r. ⌜ leaves (answered (r .answer)) (r .state) (now (medium .exit)) [] [] [] (now (waiting .entry)) ≡ force (handed self (now (medium .entry)) [] [] [] (now (waiting .entry))) ⌝ }
+    {
+        let numbers = self.numbers;
+        let phase = self.phase;
+        let no = refusal::force(numbers, phase, medium, waiting);
+        if no != 0 {
+            return refused(self, no);
+        }
+        if numbers.f >= numbers.l {
+            return done(0, numbers, phase);
+        }
+        let n = numbers.f + 1;
+        journal::store_row(medium, waiting, numbers.slots, n);
+        let next = Numbers {
+            cells: numbers.cells,
+            slots: numbers.slots,
+            h: numbers.h,
+            f: n,
+            l: numbers.l,
+            o: numbers.o,
+        };
+        done(n as u64, next, phase)
+    }
+
+    // Write-back: with `first` 0 the cell is clean; else its current value is stored and `first` becomes 0. Refuses 1, 10, 4, 8.
+    // Costs one cell; stores that cell.
+    pub fn write_back(
+        self,
+        cell: u32,
+        medium: &mut [u8],
+        current: &[u64],
+        first: &mut [u32],
+        last: &[u32],
+    ) -> WrittenBack
+        ensures { λ r. ⌜ leaves (writtenBack (r .answer)) (r .state) (now (medium .exit)) (now (current .entry)) (now (first .exit)) (now (last .entry)) [] ≡ writeBack cell (handed self (now (medium .entry)) (now (current .entry)) (now (first .entry)) (now (last .entry)) []) ⌝ }
+    {
+        let numbers = self.numbers;
+        let phase = self.phase;
+        let no = refusal::write_back(numbers, phase, cell, medium, current, first, last);
+        if no != 0 {
+            return WrittenBack {
+                answer: Back::Refused(no),
+                state: self,
+            };
+        }
+        let at = index(cell);
+        if first[at] == 0 {
+            return WrittenBack {
+                answer: Back::Clean,
+                state: self,
+            };
+        }
+        store_cell(medium, numbers.slots, cell, current[at]);
+        first[at] = 0;
+        WrittenBack {
+            answer: Back::Stored,
+            state: self,
+        }
+    }
+
+    // Cut to p: the head is stored with h = p; p may be h. Refuses 1, 10, 9, 7, 9. Goes once over the cells' `first`; stores the head.
+    pub fn cut(self, p: u32, medium: &mut [u8], first: &[u32]) -> Outcome
+        ensures { λ r. ⌜ leaves (answered (r .answer)) (r .state) (now (medium .exit)) [] (now (first .entry)) [] [] ≡ cut p (handed self (now (medium .entry)) [] (now (first .entry)) [] []) ⌝ }
+    {
+        let numbers = self.numbers;
+        let phase = self.phase;
+        let no = refusal::cut(numbers, phase, p, medium, first);
+        if no != 0 {
+            return refused(self, no);
+        }
+        store_head(medium, numbers.cells, numbers.slots, p);
+        let next = Numbers {
+            cells: numbers.cells,
+            slots: numbers.slots,
+            h: p,
+            f: numbers.f,
+            l: numbers.l,
+            o: numbers.o,
+        };
+        done(0, next, phase)
+    }
+}
