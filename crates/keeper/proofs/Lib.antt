@@ -1,6 +1,7 @@
 pub mod LookLaws
 pub mod Passed
 pub mod Recovering
+pub mod Sames
 pub mod Stores
 pub mod Transactions
 pub mod Unless
