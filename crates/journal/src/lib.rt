@@ -1,8 +1,8 @@
 // The journal: the rows of a medium, from byte 32 on, or the waiting rows, from byte 0 on. Entry n has row (n-1) mod C.
 // The row of one entry is read, appended or stored.
 ghost use mathlib.Core.Path.{_≡_};
-ghost use Prim.Native.Nat.{_+_, _*_, _<_, _≤_};
-ghost use lib.ListN.{length, take, drop};
+ghost use Prim.Native.Nat.{_+_};
+ghost use lib.ListN.{take, drop};
 ghost use Rattle.scope.specs.Bytes.{numberAt, put};
 ghost use Rattle.scope.specs.Row.{rowBytes};
 ghost use Rattle.scope.specs.Keeper.{rowAt};

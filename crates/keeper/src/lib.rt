@@ -8,8 +8,6 @@ pub mod storing;
 pub mod transaction;
 
 ghost use mathlib.Core.Path.{_≡_};
-ghost use Rattle.scope.specs.Keeper.{madeTo};
-ghost use Rattle.state.specs.State.{phaseOf, stateOf};
 use state::Numbers;
 use state::Phase;
 

@@ -1,8 +1,7 @@
 // What reaches the medium: force, write-back, cut. Each makes one store at most.
 ghost use mathlib.Core.Path.{_≡_};
 ghost use mathlib.Core.List.{[]};
-ghost use Prim.Native.Nat.{_+_, _*_, _<_, _≤_};
-ghost use lib.ListN.{length};
+ghost use Prim.Native.Nat.{_+_};
 ghost use Rattle.scope.specs.Calls.{force, writeBack, cut};
 ghost use Rattle.keeper.specs.Answers.{answered, writtenBack, handed, leaves};
 use crate::Back;

@@ -1,10 +1,9 @@
 // One transaction: begin, read, write, commit, abort. Nothing is stored.
 ghost use mathlib.Core.Path.{_≡_};
 ghost use mathlib.Core.List.{[]};
-ghost use Prim.Native.Nat.{ℕ, _+_, _*_, _<_, _≤_};
-ghost use lib.ListN.{length};
+ghost use Prim.Native.Nat.{_+_};
 ghost use Rattle.scope.specs.Calls.{begin, read, write, commit, abort, rolledBack};
-ghost use Rattle.scope.specs.Refusals.{refusal, Write, Commit};
+ghost use Rattle.scope.specs.Refusals.{refusal, Commit};
 ghost use Rattle.scope.specs.Keeper.{done};
 ghost use Rattle.state.specs.State.{phaseOf};
 ghost use Rattle.keeper.specs.Answers.{answered, handed, leaves};

@@ -1,13 +1,11 @@
 // The number that each call refuses with, 0 where it is done: the papers' table, each call's tests in their order. A function here
 // changes nothing and is total: the calls ask it first.
 ghost use mathlib.Core.Path.{_≡_};
-ghost use mathlib.Core.Bool.{_&&_, not};
+ghost use mathlib.Core.Bool.{not};
 ghost use mathlib.Core.List.{[]};
-ghost use Prim.Native.Nat.{ℕ, _+_, _-_, _*_, _<_, _≤_};
-ghost use lib.ListN.{length};
+ghost use Prim.Native.Nat.{ℕ, _+_, _-_, _<_};
 ghost use Rattle.scope.specs.Bytes.{pick};
-ghost use Rattle.scope.specs.Row.{isUpdate, isEntry};
-ghost use Rattle.scope.specs.Keeper.{isIdle, isRun, isRecovering};
+ghost use Rattle.scope.specs.Keeper.{isRecovering};
 ghost use Rattle.scope.specs.Refusals.{RecoveryStep, Begin, Read, Write, Commit, Abort, Force, WriteBack, Cut, Look, refusal};
 ghost use Rattle.state.specs.State.{phaseOf};
 ghost use Rattle.journal.specs.Entries.{Rows, entryIn};

@@ -1,6 +1,6 @@
 // Replay of a medium's entries over a table of current values. Entries are read by `scan` before, so each row reads.
 ghost use mathlib.Core.Path.{_≡_};
-ghost use Prim.Native.Nat.{_+_, _-_, _*_, _<_, _≤_};
+ghost use Prim.Native.Nat.{_+_, _-_, _<_, _≤_};
 ghost use lib.ListN.{length};
 ghost use Rattle.journal.specs.Entries.{Rows, entryIn};
 ghost use Rattle.replay.specs.Replay.{undoEntry, undoFrom, replayEntry, openAfter, replayFrom};

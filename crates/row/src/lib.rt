@@ -11,7 +11,7 @@
 //
 // Only the answer of reading a row, the entry or nothing, says what a row means.
 ghost use mathlib.Core.Path.{_≡_};
-ghost use Prim.Native.Nat.{_+_, _*_, _<_, _≤_};
+ghost use Prim.Native.Nat.{_+_, _<_, _≤_};
 ghost use lib.ListN.{length};
 ghost use Rattle.scope.specs.Bytes.{put};
 ghost use Rattle.scope.specs.Row.{rowBytes, entryOf, readRow, isWritable, writeRow};

@@ -1,7 +1,7 @@
 // The workspaces that are lost at power loss: current values, `first` and `last`, and what the waiting rows of the open
 // transaction do to them when it is rolled back.
 ghost use mathlib.Core.Path.{_≡_};
-ghost use Prim.Native.Nat.{_-_, _<_, _≤_};
+ghost use Prim.Native.Nat.{_-_, _<_};
 ghost use lib.ListN.{length};
 ghost use Rattle.scope.specs.Row.{isUpdate};
 ghost use Rattle.scope.specs.Keeper.{firstMark};
