@@ -8,9 +8,11 @@ use borrow.Author.Tests.{le-leb, lt-leb, leb-false, eqb-true}
 use lib.Dec.{leb, ltb}
 use lib.ListN.{length, take, drop}
 use Rattle.scope.specs.Bytes.{pick}
-use Rattle.scope.specs.Keeper.{Keeper, isRecovering, part, refusalOf, partOf, rowAt, waitingRow, mediumRow}
+use Rattle.scope.specs.Keeper.{Keeper, part, refusalOf, partOf, rowAt, waitingRow, mediumRow}
 use Rattle.scope.specs.Refusals.{Look, isMedium, isRows, lent, unfit, tests, refusal}
 use Rattle.scope.specs.Calls.{unless, look}
+use Rattle.scope.proofs.Refusals.{refusal-none}
+use Rattle.scope.proofs.Sound.{fit-sound, fit-lent}
 use Rattle.state.specs.State.{stateOf}
 use Rattle.state.specs.declared.Numbers.{Numbers}
 use Rattle.state.proofs.Facts.{and-left, and-right, sound-facts}
@@ -18,7 +20,6 @@ use Rattle.refusal.specs.Lent.{lentTo}
 use Rattle.refusal.proofs.Lengths.{medium-fits}
 use Rattle.keeper.specs.Answers.{handed}
 use Rattle.keeper.specs.declared.State.{State}
-use Rattle.keeper.proofs.Recovering.{passed, call-fits}
 use Rattle.keeper.proofs.Unless.{unless-refused, unless-done}
 
 part-number : (x : ℕ) (b : List ℕ) (k : Keeper) → x ≡ refusalOf (unless x (record { answer = part b; keeper = k }) k .answer)
@@ -54,16 +55,14 @@ module _ (s : State) (n : ℕ) (m w : List ℕ) (no : ℕ) (e : no ≡ refusal (
     unfolding refusal tests unfit lent lentTo stateOf
     looking =
         let j = lentTo (s .numbers) (s .phase) m [] [] [] w in
-        let out = leb n (s .numbers .h) || ltb (s .numbers .l) n in
-        let p = call-fits (Look n) j (pick (isRecovering (j .state .phase)) 10 (pick out 11 0)) (sym e ∙ h) in
-        let q = passed (isRecovering (j .state .phase)) 10 (pick out 11 0) (omega arith) (p .2) in
-        let r = passed out 11 0 (omega arith) (q .1) in
-        let f = sound-facts (s .numbers) (s .phase) (p .0) in
+        let t = refusal-none (Look n) j (sym e ∙ h) in
+        let f = sound-facts (s .numbers) (s .phase) (fit-sound (Look n) j (t .0)) in
+        let i = fit-lent (Look n) j (t .0) in
         record {
           some-slots = omega (arith, f .slots≥);
-          numbered = omega (arith, leb-false n (s .numbers .h) (or-left (leb n (s .numbers .h)) (ltb (s .numbers .l) n) (r .0)));
-          in-medium = medium-fits (s .numbers) m (and-left (isMedium j) (isRows j) (p .1));
-          in-rows = eqb-true _ _ (and-right (isMedium j) (isRows j) (p .1));
+          numbered = omega (arith, leb-false n (s .numbers .h) (or-left (leb n (s .numbers .h)) (ltb (s .numbers .l) n) (t .1 .1 .0)));
+          in-medium = medium-fits (s .numbers) m (and-left (isMedium j) (isRows j) i);
+          in-rows = eqb-true _ _ (and-right (isMedium j) (isRows j) i);
         }
 
     part-is : (b : List ℕ) → b ≡ pick (leb n (s .numbers .f)) (mediumRow k n) (waitingRow k n) → b ≡ partOf (look n (handed s m [] [] [] w) .answer)

@@ -1,13 +1,12 @@
 -- What a call that is not refused knows: no test of its table holds.
 use Prim.Native.Nat.{ℕ, _+_, _-_, _*_, _≤_, _<_}
-use mathlib.Core.Path.{_≡_, refl, sym, ap, _∙_}
-use mathlib.Core.Bool.{Bool, true, false, _&&_, _||_, not, false≢true}
-use mathlib.Core.List.{List, []}
+use mathlib.Core.Path.{_≡_, refl, sym}
+use mathlib.Core.Bool.{true, false, not, false≢true}
+use mathlib.Core.List.{List}
 use native.Mathlib.Omega.{arith}
 use borrow.Author.Tests.{eqb-true, leb-false}
-use lib.Dec.{eqb, leb}
 use lib.ListN.{length}
-use Rattle.scope.specs.Keeper.{Keeper, isIdle, isRun, isRecovering, mediumLength, sound, cellAt}
+use Rattle.scope.specs.Keeper.{Keeper, isIdle, isRun, isRecovering, cellAt}
 use Rattle.scope.specs.Refusals.{Call, Begin, Read, Write, Commit, Abort, Force, WriteBack, Cut, lent, unfit, tests, refusal}
 use Rattle.scope.proofs.Refusals.{refusal-none}
 use Rattle.scope.proofs.Sound.{fit-sound, fit-lent}
@@ -17,6 +16,7 @@ use Rattle.state.specs.declared.Phase as code
 use Rattle.state.specs.declared.Phase.the-variants.{Idle, Run, Recovering}
 use Rattle.state.proofs.Facts.{and-left, and-right, Sound, sound-facts, run-facts}
 use Rattle.refusal.specs.Lent.{lentTo}
+use Rattle.refusal.proofs.Lengths.{medium-fits}
 use Rattle.keeper.specs.Rolling.{Rolling}
 
 ruleset lengths = (and-left, and-right, eqb-true)
@@ -26,10 +26,6 @@ unfolding isRecovering isIdle isRun
 in-run Idle a b = absurd (false≢true (sym b))
 in-run Run a b = refl
 in-run Recovering a b = absurd (false≢true (sym a))
-
-medium-length : (cells slots len : ℕ) → eqb len (mediumLength cells slots) ≡ true → len ≡ 32 + 32 * slots + 8 * cells
-unfolding mediumLength
-medium-length cells slots len e = eqb-true len (32 + 32 * slots + 8 * cells) e
 
 module _ (n : Numbers) (p : code.Phase) (medium current first last waiting : List ℕ) where
   k : Keeper
@@ -80,7 +76,7 @@ module _ (n : Numbers) (p : code.Phase) (medium current first last waiting : Lis
   force-passed e =
       let t = refusal-none Force k e in
       let l = fit-lent Force k (t .0) in
-      (is-sound Force (t .0), medium-length (n .cells) (n .slots) (length medium) (search lengths), search lengths)
+      (is-sound Force (t .0), medium-fits n medium (search lengths), search lengths)
 
   pub back-passed : (c : ℕ) → refusal (WriteBack c) (lentTo n p medium current first last waiting) ≡ 0
       → (length medium ≡ 32 + 32 * n .slots + 8 * n .cells) × (length current ≡ n .cells) × (length first ≡ n .cells) × (c < n .cells)
@@ -88,14 +84,14 @@ module _ (n : Numbers) (p : code.Phase) (medium current first last waiting : Lis
   back-passed c e =
       let t = refusal-none (WriteBack c) k e in
       let l = fit-lent (WriteBack c) k (t .0) in
-      (medium-length (n .cells) (n .slots) (length medium) (search lengths), search lengths, search lengths, leb-false (n .cells) c (t .1 .1 .0))
+      (medium-fits n medium (search lengths), search lengths, search lengths, leb-false (n .cells) c (t .1 .1 .0))
 
   pub cut-passed : (q : ℕ) → refusal (Cut q) (lentTo n p medium current first last waiting) ≡ 0 → length medium ≡ 32 + 32 * n .slots + 8 * n .cells
   unfolding tests lent lentTo stateOf k
   cut-passed q e =
       let t = refusal-none (Cut q) k e in
       let l = fit-lent (Cut q) k (t .0) in
-      medium-length (n .cells) (n .slots) (length medium) (search lengths)
+      medium-fits n medium (search lengths)
 
 -- a cell of the table lies on the medium
 pub cell-room : (cells slots cell len : ℕ) → len ≡ 32 + 32 * slots + 8 * cells → cell < cells → cellAt slots cell + 8 ≤ len

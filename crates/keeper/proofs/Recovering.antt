@@ -1,18 +1,20 @@
 -- Recovery: one law for each way that a function ends, from the tests that led there; a start's table is the replay of the entries that scan counted.
 use Prim.Native.Nat.{ℕ, suc, _+_, _-_, _*_, _≤_, _<_}
 use mathlib.Core.Path.{_≡_, refl, sym, ap, _∙_}
-use mathlib.Core.Bool.{Bool, true, false, _&&_, not}
+use mathlib.Core.Bool.{Bool, true, false, _&&_}
 use mathlib.Core.List.{List, [], _∷_}
 use mathlib.Core.Option.{Option, none, some}
 use native.Mathlib.Omega.{arith}
-use borrow.Author.Tests.{lt-ltb, le-ltb, eq-eqb, ne-eqb, leb-true, eqb-true, not-false}
+use borrow.Author.Tests.{lt-ltb, le-ltb, eq-eqb, ne-eqb, leb-true, eqb-true}
 use lib.Dec.{eqb}
 use lib.ListN.{length, getD, replicate}
 use Rattle.scope.specs.Bytes.{pick, bytesOf, numberAt, put}
-use Rattle.scope.specs.Keeper.{Keeper, Answer, isRecovering, sound, recovering, done, refused, cell, head, clean, inRange, mediumLength, cellAt, headBytes, headOk, noState, withState, withMedium, madeTo, droppedTo, storeCell, storeHead}
+use Rattle.scope.specs.Keeper.{Answer, recovering, done, refused, cell, head, clean, inRange, mediumLength, cellAt, headBytes, headOk, noState, withState, withMedium, madeTo, droppedTo, storeCell, storeHead}
 use Rattle.scope.specs.Recovery.{journal, replay, tableOf, differing}
-use Rattle.scope.specs.Refusals.{Call, RecoveryStep, isMedium, isCells, lent, lentStart, unfit, tests, refusal}
+use Rattle.scope.specs.Refusals.{RecoveryStep, isMedium, isCells, lent, lentStart, unfit, tests, refusal}
 use Rattle.scope.specs.Calls.{startWith, unlessStart, recoveryStart, stepAt, recoveryStep}
+use Rattle.scope.proofs.Refusals.{refusal-none}
+use Rattle.scope.proofs.Sound.{fit-sound, fit-lent}
 use Rattle.medium.specs.Lent.{found}
 use Rattle.medium.specs.declared.table.Found.{Found}
 use Rattle.medium.specs.declared.table.Found.the-variants.{At, Nothing}
@@ -32,19 +34,6 @@ use Rattle.keeper.specs.declared.State.{State}
 use Rattle.keeper.specs.declared.Outcome.{Outcome}
 use Rattle.keeper.specs.declared.Answer.the-variants.{Done, Refused}
 use Rattle.keeper.proofs.Unless.{unless-refused, unless-done}
-
--- a test that didn't refuse
-pub passed : (t : Bool) (x rest : ℕ) → 0 < x → pick t x rest ≡ 0 → (t ≡ false) × (rest ≡ 0)
-passed true x rest h e = absurd (omega arith)
-passed false x rest h e = (refl, e)
-
--- a call that isn't refused with 1
-pub call-fits : (a : Call) (k : Keeper) (rest : ℕ) → pick (unfit a k) 1 rest ≡ 0 → (sound (k .state) ≡ true) × (lent a k ≡ true) × (rest ≡ 0)
-unfolding unfit
-call-fits a k rest e =
-    let p = passed (not (sound (k .state) && lent a k)) 1 rest (omega arith) e in
-    let t = not-false (sound (k .state) && lent a k) (p .0) in
-    (and-left (sound (k .state)) (lent a k) t, and-right (sound (k .state)) (lent a k) t, p .1)
 
 -- a head in rule
 pub record Head (m : List ℕ) : Type 0 where
@@ -204,12 +193,13 @@ module _ (s : State) (m current : List ℕ) (no : ℕ) (e : no ≡ refusal Recov
     unfolding refusal tests unfit lent lentTo stateOf
     stepping =
         let k = lentTo (s .numbers) (s .phase) m current [] [] [] in
-        let p = call-fits RecoveryStep k (pick (not (isRecovering (k .state .phase))) 10 0) (sym e ∙ h) in
-        let f = sound-facts (s .numbers) (s .phase) (p .0) in
+        let t = refusal-none RecoveryStep k (sym e ∙ h) in
+        let f = sound-facts (s .numbers) (s .phase) (fit-sound RecoveryStep k (t .0)) in
+        let l = fit-lent RecoveryStep k (t .0) in
         record {
           few-cells = f .cells≤;
-          in-medium = medium-fits (s .numbers) m (and-left (isMedium k) (isCells k current) (p .1));
-          in-current = eqb-true _ _ (and-right (isMedium k) (isCells k current) (p .1));
+          in-medium = medium-fits (s .numbers) m (and-left (isMedium k) (isCells k current) l);
+          in-current = eqb-true _ _ (and-right (isMedium k) (isCells k current) l);
         }
 
     module _ (u : Found) (d : found u ≡ differing (tableOf (length current) (s .numbers .slots) m) current 0) where

@@ -1,20 +1,19 @@
 -- What force, write-back and cut leave where they are done: the definition's record, field by field.
-use Prim.Native.Nat.{ℕ, _+_, _*_, _≤_, _<_}
-use mathlib.Core.Path.{_≡_, refl, sym, ap, _∙_}
-use mathlib.Core.Bool.{Bool, true, false}
+use Prim.Native.Nat.{ℕ, _+_, _≤_, _<_}
+use mathlib.Core.Path.{_≡_, sym, ap, _∙_}
+use mathlib.Core.Bool.{true, false}
 use mathlib.Core.List.{List, []}
 use borrow.Author.Tests.{lt-ltb, le-ltb}
 use native.Mathlib.Omega.{arith}
 use lib.Dec.{ltb}
-use lib.ListN.{length, getD, set, take, drop}
-use Rattle.scope.specs.Bytes.{pick, bytesOf, put}
-use Rattle.scope.specs.Keeper.{Keeper, Outcome, done, refused, clean, stored, rowAt, cellAt, waitingRow, headBytes, withState, withMedium, storedNext, droppedTo, storeCell, storeHead}
+use lib.ListN.{getD, set, take, drop}
+use Rattle.scope.specs.Bytes.{bytesOf, put}
+use Rattle.scope.specs.Keeper.{Outcome, done, refused, clean, stored, rowAt, cellAt, waitingRow, headBytes, withState, withMedium, storedNext, droppedTo, storeCell, storeHead}
 use Rattle.scope.specs.Refusals.{Force, WriteBack, Cut, refusal}
 use Rattle.scope.specs.Calls.{force, writeBack, cleaned, cut}
-use Rattle.state.specs.State.{phaseOf, stateOf}
-use Rattle.state.specs.declared.Numbers.{Numbers}
+use Rattle.state.specs.State.{stateOf}
 use Rattle.refusal.specs.Lent.{lentTo}
-use Rattle.keeper.specs.Answers.{answered, writtenBack, handed, leaves}
+use Rattle.keeper.specs.Answers.{answered, handed, leaves}
 use Rattle.keeper.specs.declared.State.{State}
 use Rattle.keeper.specs.declared.Outcome as result
 use Rattle.keeper.specs.declared.Answer.the-variants.{Done, Refused}

@@ -1,19 +1,18 @@
 -- What begin, read, write, commit and abort leave where they are done: the definition's record, field by field.
-use Prim.Native.Nat.{ℕ, _+_, _-_, _*_, _≤_, _<_}
-use mathlib.Core.Path.{_≡_, refl, sym, ap, _∙_}
+use Prim.Native.Nat.{ℕ, _+_, _-_}
+use mathlib.Core.Path.{_≡_, sym, ap, _∙_}
 use mathlib.Core.Bool.{Bool, true, false}
 use mathlib.Core.List.{List, []}
-use lib.ListN.{length, getD}
+use lib.ListN.{getD}
 use Rattle.scope.specs.Bytes.{pick, put}
-use Rattle.scope.specs.Row.{Entry, update, commitEntry, abortEntry, rowBytes}
-use Rattle.scope.specs.Keeper.{Keeper, Outcome, Phase, idle, run, done, refused, isRun, rowAt, withState, withWaiting, madeTo, assign, append}
-use Rattle.scope.specs.Recovery.{rollback}
-use Rattle.scope.specs.Refusals.{Call, Begin, Read, Write, Commit, Abort, refusal}
+use Rattle.scope.specs.Row.{update, abortEntry, rowBytes}
+use Rattle.scope.specs.Keeper.{Keeper, Outcome, Phase, idle, run, done, isRun, rowAt, withState, withWaiting, madeTo, assign, append}
+use Rattle.scope.specs.Refusals.{Begin, Read, Write, Commit, Abort, refusal}
 use Rattle.scope.specs.Calls.{begin, read, write, commit, abort, rolledBack}
 use Rattle.state.specs.State.{phaseOf, stateOf}
 use Rattle.state.specs.declared.Numbers.{Numbers}
 use Rattle.state.specs.declared.Phase as code
-use Rattle.state.specs.declared.Phase.the-variants.{Idle, Run, Recovering}
+use Rattle.state.specs.declared.Phase.the-variants.{Idle, Run}
 use Rattle.row.specs.Row.{entry}
 use Rattle.row.specs.declared.Entry.the-variants as what
 use Rattle.journal.specs.Entries.{entryIn}
@@ -24,7 +23,7 @@ use Rattle.keeper.specs.Answers.{answered, handed, leaves}
 use Rattle.keeper.specs.declared.State.{State}
 use Rattle.keeper.specs.declared.Outcome as result
 use Rattle.keeper.specs.declared.Answer.the-variants.{Done, Refused}
-use Rattle.keeper.proofs.Unless.{unless-refused, unless-done, refused-leaves}
+use Rattle.keeper.proofs.Unless.{unless-done, refused-leaves}
 
 module _ (s : State) (r : result.Outcome) (number : ℕ) where
   -- read

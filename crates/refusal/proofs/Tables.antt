@@ -1,28 +1,23 @@
 -- Each call's number is the table's: tests that are known, put into the table by congruence, and a table cut in two where a call looks at
 -- its buffers only after the first tests.
-use Prim.Native.Nat.{ℕ, suc, _+_, _-_, _*_, _≤_, _<_}
+use Prim.Native.Nat.{ℕ, _+_, _-_, _*_, _≤_, _<_}
 use mathlib.Core.Path.{_≡_, refl, sym, ap, _∙_}
 use mathlib.Core.Bool.{Bool, true, false, _&&_, _||_, not}
-use mathlib.Core.Logic.{⊎-elim}
 use mathlib.Core.List.{List, [], _∷_, _++_}
-use mathlib.Core.Option.{Option, none, some}
-use native.Mathlib.Nat.{zero-add}
+use mathlib.Core.Option.{Option}
 use native.Mathlib.Omega.{arith}
-use borrow.Author.Tests.{lt-ltb, le-ltb, le-leb, lt-leb, eq-eqb, ne-eqb, leb-false}
+use borrow.Author.Tests.{lt-ltb, le-ltb, eq-eqb, ne-eqb, leb-false}
 use lib.Dec.{eqb, ltb, leb}
 use lib.ListN.{length, getD}
 use Rattle.scope.specs.Bytes.{pick}
-use Rattle.scope.specs.Row.{Entry, update, readRow, isEntry, isUpdate}
-use Rattle.scope.specs.Keeper.{Keeper, isIdle, isRun, isRecovering, mediumLength, sound, waitingRow, mediumRow}
-use Rattle.scope.specs.Refusals.{Call, RecoveryStep, Begin, Read, Write, Commit, Abort, Force, WriteBack, Cut, Look, lent, unfit, notUpdates, full, usedUp, anyFirst, tests, firstNo, refusal}
+use Rattle.scope.specs.Row.{Entry, isEntry, isUpdate}
+use Rattle.scope.specs.Keeper.{Keeper, isIdle, isRun, isRecovering, mediumLength, sound, mediumRow}
+use Rattle.scope.specs.Refusals.{RecoveryStep, Begin, Read, Write, Commit, Abort, Force, WriteBack, Cut, Look, lent, unfit, notUpdates, full, usedUp, anyFirst, tests, firstNo, refusal}
+use Rattle.scope.proofs.Refusals.{Numbered}
 use Rattle.scope.proofs.Row.{read-zero}
 use Rattle.state.specs.State.{phaseOf, stateOf}
 use Rattle.state.specs.declared.Numbers.{Numbers}
 use Rattle.state.specs.declared.Phase as code
-use Rattle.row.specs.Row.{meaning}
-use Rattle.row.specs.declared.Row.{Row}
-use Rattle.row.specs.declared.Row.the-variants.{Holds, Nothing}
-use Rattle.row.specs.declared.Entry as what
 use Rattle.journal.specs.Entries.{entryIn}
 use Rattle.workspace.specs.Desk.{updatesFrom}
 use Rattle.workspace.proofs.Desks.{updates-keeper, waiting-entry}
@@ -38,10 +33,6 @@ early (x ∷ xs) ys h = go (x .0) h (early xs ys)
         → pick b (x .1) (firstNo xs) ≡ pick b (x .1) (firstNo (xs ++ ys))
     go true g rest = refl
     go false g rest = rest g
-
-abbrev Numbered : List (Bool × ℕ) → Type 0
-Numbered [] = Unit {0}
-Numbered (x ∷ xs) = (0 < x .1) × Numbered xs
 
 late : (xs ys : List (Bool × ℕ)) → Numbered xs → firstNo xs ≡ 0 → firstNo ys ≡ firstNo (xs ++ ys)
 late [] ys n h = refl
@@ -70,13 +61,6 @@ module _ (n : Numbers) (p : code.Phase) (waiting : List ℕ) (b : Bool) (e : b �
   pub in-run : (y : Bool) → b ≡ true → y ≡ updatesFrom (entryIn waiting 0 (n .slots) (n .cells)) (n .l - n .o) (n .l) → not y ≡ notUpdatesIn n p waiting
   unfolding notUpdatesIn
   in-run y z q = simp (← e, z, q)
-
-module _ (r : Row) (o : Option Entry) (e : meaning r ≡ o) where
-  pub nothing-entry : r ≡ Nothing → isEntry o ≡ false
-  nothing-entry p = ap isEntry (sym e ∙ ap meaning p)
-
-  pub holds-entry : (w : what.Entry) → r ≡ Holds w → isEntry o ≡ true
-  holds-entry w p = ap isEntry (sym e ∙ ap meaning p)
 
 -- a cell that is not refused with 4
 pub cell-inside : (t rec : Bool) (cells cell number r₁ r₂ : ℕ) → r₂ ≡ pick (leb cells cell) 4 0 → r₁ ≡ pick rec 10 r₂ → number ≡ pick (not t) 1 r₁ → number ≡ 0 → cell < cells
@@ -188,13 +172,13 @@ module _ (n : Numbers) (p : code.Phase) (s t rec : Bool) (ss : s ≡ sound (stat
     unfolding force-last
     force-none z h = force-late 0 z (simp (le-ltb (n .f) (n .l) h))
 
-    pub force-entry : number ≡ 0 → n .f < n .l → isEntry (entryIn waiting 0 (n .slots) (n .cells) (n .f + 1)) ≡ true → 0 ≡ refusal Force (lentTo n p m [] [] [] waiting)
+    pub force-entry : number ≡ 0 → n .f < n .l → true ≡ isEntry (entryIn waiting 0 (n .slots) (n .cells) (n .f + 1)) → 0 ≡ refusal Force (lentTo n p m [] [] [] waiting)
     unfolding force-last
-    force-entry z h i = force-late 0 z (simp (lt-ltb (n .f) (n .l) h, i))
+    force-entry z h i = force-late 0 z (simp (lt-ltb (n .f) (n .l) h, ← i))
 
-    pub force-other : number ≡ 0 → n .f < n .l → isEntry (entryIn waiting 0 (n .slots) (n .cells) (n .f + 1)) ≡ false → 7 ≡ refusal Force (lentTo n p m [] [] [] waiting)
+    pub force-other : number ≡ 0 → n .f < n .l → false ≡ isEntry (entryIn waiting 0 (n .slots) (n .cells) (n .f + 1)) → 7 ≡ refusal Force (lentTo n p m [] [] [] waiting)
     unfolding force-last
-    force-other z h i = force-late 7 z (simp (lt-ltb (n .f) (n .l) h, i))
+    force-other z h i = force-late 7 z (simp (lt-ltb (n .f) (n .l) h, ← i))
 
   -- write-back
 
@@ -307,18 +291,18 @@ module _ (h p : ℕ) (e : Option Entry) where
   moved-same q = simp (eq-eqb p h q)
 
   module _ (q : p ≡ h → ⊥) where
-    pub moved-none : isEntry e ≡ false → 7 ≡ movedNo h p e
+    pub moved-none : false ≡ isEntry e → 7 ≡ movedNo h p e
     unfolding movedNo
-    moved-none i = simp (ne-eqb p h q, i)
+    moved-none i = simp (ne-eqb p h q, ← i)
 
-    pub moved-end : isEntry e ≡ true → isUpdate e ≡ false → 0 ≡ movedNo h p e
+    pub moved-end : true ≡ isEntry e → false ≡ isUpdate e → 0 ≡ movedNo h p e
     unfolding movedNo
-    moved-end i j = simp (ne-eqb p h q, i, j)
+    moved-end i j = simp (ne-eqb p h q, ← i, ← j)
 
-    pub moved-update : isEntry e ≡ true → isUpdate e ≡ true → 9 ≡ movedNo h p e
+    pub moved-update : true ≡ isEntry e → true ≡ isUpdate e → 9 ≡ movedNo h p e
     unfolding movedNo
-    moved-update i j = simp (ne-eqb p h q, i, j)
+    moved-update i j = simp (ne-eqb p h q, ← i, ← j)
 
-pub entry-zero : (rows : List ℕ) (base slots cells p : ℕ) → p ≡ 0 → isEntry (entryIn rows base slots cells p) ≡ false
+pub entry-zero : (rows : List ℕ) (base slots cells p : ℕ) → p ≡ 0 → false ≡ isEntry (entryIn rows base slots cells p)
 unfolding entryIn
-entry-zero rows base slots cells p e = rw e (ap isEntry (read-zero cells _))
+entry-zero rows base slots cells p e = rw e (ap isEntry (sym (read-zero cells _)))

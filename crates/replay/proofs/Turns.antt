@@ -1,81 +1,38 @@
 -- Undo, replay and scan, one law for each way that an entry or a turn of a loop goes: what remains to be done stays the same.
 use Prim.Native.Nat.{ℕ, suc, _+_, _-_, _≤_, _<_}
 use mathlib.Core.Path.{_≡_, refl, sym, ap, _∙_}
-use mathlib.Core.Bool.{Bool, true, false, _&&_}
+use mathlib.Core.Bool.{Bool, true, false, false≢true}
 use mathlib.Core.List.{List, [], _∷_}
 use mathlib.Core.Option.{Option, none, some}
-use mathlib.Core.Logic.{⊎-elim}
 use native.Mathlib.Omega.{arith}
 use borrow.Author.Tests.{le-leb, lt-leb, leb-true, eq-eqb, ne-eqb}
 use types.Run.{OneOf}
 use denote.Enum.Declared.{tagOf}
-use lib.Dec.{eqb, leb}
-use lib.ListN.{length, set, take, drop}
+use lib.Dec.{leb}
+use lib.ListN.{length, set}
 use Rattle.scope.specs.Bytes.{pick, maxNo, numberAt}
-use Rattle.scope.specs.Row.{Entry, update, commitEntry, abortEntry, entryOf}
-use Rattle.scope.specs.Keeper.{rowAt}
+use Rattle.scope.specs.Row.{Entry, update, commitEntry, abortEntry, isUpdate}
 use Rattle.scope.specs.Recovery.{rowsOf, also, entriesFrom, atMost, journal}
-use Rattle.scope.proofs.Row.{read-fields}
-use Rattle.row.specs.Row.{entry, meaning}
-use Rattle.row.specs.declared.Row.{Row}
-use Rattle.row.specs.declared.Row.the-variants.{Holds, Nothing}
-use Rattle.row.specs.declared.Entry as code
-use Rattle.row.specs.declared.Entry.the-variants.{Update, Commit, Abort}
-use Rattle.row.proofs.Entry.{the-type}
+use Rattle.row.specs.Row.{entry}
 use Rattle.journal.specs.Entries.{entryIn}
+use Rattle.row.specs.Row.{meaning}
+use Rattle.row.specs.declared.Row.{Row}
+use Rattle.row.specs.declared.Row.the-variants.{Holds}
+use Rattle.row.specs.declared.Entry as code
+use Rattle.row.proofs.Entry.{the-type}
+use Rattle.journal.proofs.Meanings.{is-end}
 use Rattle.replay.specs.Replay.{lastOf, undoEntry, undoFrom, replayEntry, openAfter, replayFrom}
 
--- what a row's answer means, by its variants
+-- an entry that is no update undoes nothing
 
-module _ (x : Row) (r : Option Entry) (m : meaning x ≡ r) where
-  pub is-nothing : x ≡ Nothing → none ≡ r
-  is-nothing p = sym (ap meaning p) ∙ m
+undo-other : (o : Option Entry) (t : List ℕ) → false ≡ isUpdate o → t ≡ undoEntry o t
+undo-other none t h = refl
+undo-other (some (update c old new)) t h = absurd (false≢true h)
+undo-other (some commitEntry) t h = refl
+undo-other (some abortEntry) t h = refl
 
-  module _ (w : code.Entry) (p : x ≡ Holds w) where
-    pub is-some : some (entry w) ≡ r
-    is-some = sym (ap meaning p) ∙ m
-
-    pub is-update : (c old new : ℕ) → w ≡ Update c old new → some (update c old new) ≡ r
-    is-update c old new q = sym (ap (λ v. some (entry v)) q) ∙ is-some
-
-    pub is-commit : w ≡ Commit → some commitEntry ≡ r
-    is-commit q = sym (ap (λ v. some (entry v)) q) ∙ is-some
-
-    pub is-abort : w ≡ Abort → some abortEntry ≡ r
-    is-abort q = sym (ap (λ v. some (entry v)) q) ∙ is-some
-
-    -- no update
-    pub undo-end : (t : List ℕ) → OneOf (1 ∷ 2 ∷ []) (tagOf the-type w) → t ≡ undoEntry r t
-    undo-end t h = kept w h ∙ ap (λ z. undoEntry z t) is-some
-      where
-        zero-is : (k : ℕ) → 0 ≡ suc k → ⊥
-        zero-is k e = omega arith
-
-        kept : (v : code.Entry) → OneOf (1 ∷ 2 ∷ []) (tagOf the-type v) → t ≡ undoEntry (some (entry v)) t
-        kept (Update c old new) g = absurd (⊎-elim (zero-is 0) (zero-is 1) g)
-        kept Commit g = refl
-        kept Abort g = refl
-
--- an update that reads has its cell below N
-
-same-cell : (k c a b c′ a′ b′ : ℕ) → entryOf k c a b ≡ some (update c′ a′ b′) → c ≡ c′
-unfolding entryOf
-same-cell k c a b c′ a′ b′ p = go (eqb k 1) (eqb c 0 && (eqb a 0 && eqb b 0)) (eqb k 2) (eqb k 3) p
-  where
-    go : (t z k₂ k₃ : Bool)
-        → pick t (some (update c a b)) (pick z (pick k₂ (some commitEntry) (pick k₃ (some abortEntry) none)) none) ≡ some (update c′ a′ b′)
-        → c ≡ c′
-    go true z k₂ k₃ q = cc
-    go false true true k₃ q = cc
-    go false true false true q = cc
-    go false true false false q = cc
-    go false false k₂ k₃ q = cc
-
-pub entry-below : (rows : List ℕ) (base slots cells n c old new : ℕ) → some (update c old new) ≡ entryIn rows base slots cells n → c < cells
-unfolding entryIn
-entry-below rows base slots cells n c old new p =
-    let f = read-fields cells n (take 32 (drop (base + rowAt slots n) rows)) (update c old new) (sym p) in
-    omega (arith, f .below, same-cell _ _ _ _ _ _ _ (f .entry))
+pub undo-end : (x : Row) (o : Option Entry) → meaning x ≡ o → (w : code.Entry) → x ≡ Holds w → (t : List ℕ) → OneOf (1 ∷ 2 ∷ []) (tagOf the-type w) → t ≡ undoEntry o t
+undo-end x o m w p t h = undo-other o t (is-end x o m w p h)
 
 -- one entry undone, replayed
 

@@ -1,10 +1,11 @@
--- What a sound state has, as facts: each test of the definition that is true, read off.
-use Prim.Native.Nat.{ℕ, _+_, _-_, _*_, _≤_, _<_}
+-- What a sound state has, in the code's numbers: read off the definition's facts.
+use Prim.Native.Nat.{_-_, _≤_, _<_}
 use mathlib.Core.Path.{_≡_, refl, sym, ap, _∙_}
-use mathlib.Core.Bool.{Bool, true, false, _&&_, not, false≢true}
+use mathlib.Core.Bool.{Bool, true, false, _&&_, false≢true}
 use borrow.Author.Tests.{leb-true, ltb-true, eqb-true}
 use Rattle.scope.specs.Bytes.{maxNo}
-use Rattle.scope.specs.Keeper.{Phase, isRun, phaseOk, inRange, sound}
+use Rattle.scope.specs.Keeper.{isRun, phaseOk, sound}
+use Rattle.scope.proofs.Sound as scope
 use Rattle.state.specs.State.{phaseOf, stateOf}
 use Rattle.state.specs.declared.Numbers.{Numbers}
 use Rattle.state.specs.declared.Phase as code
@@ -32,18 +33,19 @@ pub record Sound (n : Numbers) (p : code.Phase) : Type 0 where
   pub phase : phaseOk (stateOf n p) (phaseOf p) ≡ true
 
 pub sound-facts : (n : Numbers) (p : code.Phase) → sound (stateOf n p) ≡ true → Sound n p
-unfolding sound inRange maxNo stateOf
+unfolding stateOf
 sound-facts n p e =
+    let s = scope.sound-facts (stateOf n p) e in
     record {
-      cells≥ = search tests;
-      cells≤ = search tests;
-      slots≥ = search tests;
-      slots≤ = search tests;
-      h≤f = search tests;
-      f≤l = search tests;
-      l≤M = search tests;
-      held = search tests;
-      phase = search tests;
+      cells≥ = s .cells≥;
+      cells≤ = s .cells≤;
+      slots≥ = s .slots≥;
+      slots≤ = s .slots≤;
+      h≤f = s .h≤f;
+      f≤l = s .f≤l;
+      l≤M = s .l≤M;
+      held = s .room;
+      phase = s .phase;
     }
 
 -- in run an open transaction keeps one row and one number free

@@ -1,12 +1,11 @@
 -- Soundness and its tests, one law for each way that their functions end: the tests that led there, put into the definition.
-use Prim.Native.Nat.{ℕ, _+_, _-_, _*_, _≤_, _<_}
-use mathlib.Core.Path.{_≡_, refl, sym, ap, _∙_}
+use Prim.Native.Nat.{ℕ, _+_, _-_, _≤_, _<_}
+use mathlib.Core.Path.{_≡_, ap, _∙_}
 use mathlib.Core.Bool.{Bool, true, false, _&&_}
-use native.Mathlib.Omega.{arith}
 use borrow.Author.Tests.{lt-ltb, le-ltb, le-leb, lt-leb, eq-eqb, ne-eqb}
-use lib.Dec.{eqb, ltb, leb}
+use lib.Dec.{eqb, ltb}
 use Rattle.scope.specs.Bytes.{maxNo}
-use Rattle.scope.specs.Keeper.{phaseOk, inRange, sound, mediumLength}
+use Rattle.scope.specs.Keeper.{phaseOk, inRange, sound}
 use Rattle.scope.specs.Refusals.{openCount, full, usedUp}
 use Rattle.state.specs.State.{phaseOf, stateOf}
 use Rattle.state.specs.declared.Numbers.{Numbers}

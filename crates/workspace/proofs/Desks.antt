@@ -1,13 +1,10 @@
 -- The loops' forms are the papers': rolling back a keeper changes its desk alone, by induction on the rows.
-use Prim.Native.Nat.{ℕ, zero, suc, _+_, _-_, _*_, _≤_, _<_}
+use Prim.Native.Nat.{ℕ, zero, suc, _-_}
 use mathlib.Core.Path.{_≡_, refl, sym, ap, _∙_}
-use mathlib.Core.Bool.{Bool, _&&_}
-use mathlib.Core.List.{List}
 use mathlib.Core.Option.{Option, none, some}
 use native.Mathlib.Nat.{zero-add}
-use lib.ListN.{take, drop}
-use Rattle.scope.specs.Row.{Entry, update, commitEntry, abortEntry, readRow, isUpdate}
-use Rattle.scope.specs.Keeper.{Keeper, State, rowAt, waitingRow, assign}
+use Rattle.scope.specs.Row.{Entry, update, commitEntry, abortEntry, readRow}
+use Rattle.scope.specs.Keeper.{Keeper, waitingRow, assign}
 use Rattle.scope.specs.Recovery.{allUpdates, restore, rollback}
 use Rattle.journal.specs.Entries.{entryIn}
 use Rattle.workspace.specs.Desk.{Desk, desk, assigned, restored, rolledFrom, updatesFrom}

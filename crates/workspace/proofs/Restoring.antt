@@ -1,30 +1,18 @@
 -- What one waiting row does to the workspaces, by what it reads as, and one turn of each loop, by peeling its definition.
-use Prim.Native.Nat.{ℕ, zero, suc, _+_, _-_, _*_, _≤_, _<_}
-use mathlib.Core.Path.{_≡_, refl, sym, ap, _∙_, subst}
-use mathlib.Core.Bool.{Bool, true, false, _&&_, _||_}
-use mathlib.Core.Logic.{⊎-elim}
-use mathlib.Core.List.{List, [], _∷_}
+use Prim.Native.Nat.{ℕ, suc, _+_, _-_, _≤_, _<_}
+use mathlib.Core.Path.{_≡_, refl, sym, ap, _∙_}
+use mathlib.Core.Bool.{Bool, true, false, _&&_, _||_, false≢true}
+use mathlib.Core.List.{List}
 use mathlib.Core.Option.{Option, none, some}
 use native.Mathlib.Omega.{arith}
 use native.Mathlib.Numerals.{add-one}
 use borrow.Author.Tests.{lt-ltb, le-ltb, le-leb, lt-leb, eq-eqb, ne-eqb}
-use denote.Enum.Declared.{tagOf}
-use types.Run.{OneOf}
-use lib.Dec.{eqb, ltb, leb}
+use lib.Dec.{ltb, leb}
 use lib.ListN.{length, getD, set, drop, drop-of-length-le}
 use lib.Seq.{drop-cons}
-use Rattle.scope.specs.Bytes.{pick}
-use Rattle.scope.specs.Row.{Entry, update, commitEntry, abortEntry, entryOf, readRow, isUpdate}
+use Rattle.scope.specs.Row.{Entry, update, commitEntry, abortEntry, isUpdate}
 use Rattle.scope.specs.Keeper.{firstMark}
 use Rattle.scope.specs.Refusals.{anyFirst}
-use Rattle.scope.proofs.Row.{none≢some, read-fields}
-use Rattle.row.specs.Row.{entry, meaning}
-use Rattle.row.specs.declared.Row.{Row}
-use Rattle.row.specs.declared.Row.the-variants.{Holds, Nothing}
-use Rattle.row.specs.declared.Entry as code
-use Rattle.row.specs.declared.Entry.the-variants.{Update, Commit, Abort}
-use Rattle.row.proofs.Entry.{the-type}
-use Rattle.journal.specs.Entries.{entryIn}
 use Rattle.workspace.specs.Desk.{Desk, desk, assigned, restored, rolledFrom, updatesFrom}
 
 -- marks and assignments
@@ -42,67 +30,18 @@ pub assign-is : (current first last : List ℕ) (at c v n mark : ℕ) → at ≡
 unfolding assigned desk
 assign-is current first last at c v n mark p q = rw (q, p)
 
--- what the row is
-
-module _ (r : Row) (o : Option Entry) (e : meaning r ≡ o) where
-  pub nothing-is : r ≡ Nothing → false ≡ isUpdate o
-  nothing-is p = ap (λ x. isUpdate (meaning x)) (sym p) ∙ ap isUpdate e
-
-  module _ (w : code.Entry) (p : r ≡ Holds w) where
-    holds : some (entry w) ≡ o
-    holds = ap meaning (sym p) ∙ e
-
-    pub update-is : (c a b : ℕ) → w ≡ Update c a b → o ≡ some (update c a b)
-    update-is c a b q = sym holds ∙ ap (λ x. some (entry x)) q
-
-    pub end-is : OneOf (1 ∷ 2 ∷ []) (tagOf the-type w) → false ≡ isUpdate o
-    end-is h = go w h ∙ ap isUpdate holds
-      where
-        zero-is : (k : ℕ) → 0 ≡ suc k → ⊥
-        zero-is k z = omega arith
-
-        go : (w : code.Entry) → OneOf (1 ∷ 2 ∷ []) (tagOf the-type w) → false ≡ isUpdate (some (entry w))
-        go (Update c a b) h = absurd (⊎-elim (λ z. zero-is 0 z) (λ z. zero-is 1 z) h)
-        go Commit h = refl
-        go Abort h = refl
-
-pub update-true : (o : Option Entry) (c a b : ℕ) → o ≡ some (update c a b) → true ≡ isUpdate o
-update-true o c a b p = ap isUpdate (sym p)
-
--- an update that reads has its cell in the table
-
-update-cell : (k c′ a′ b′ c a b : ℕ) → entryOf k c′ a′ b′ ≡ some (update c a b) → c′ ≡ c
-unfolding entryOf
-update-cell k c′ a′ b′ c a b p = go (eqb k 1) (eqb c′ 0 && (eqb a′ 0 && eqb b′ 0)) (eqb k 2) (eqb k 3) p
-  where
-    other : (e : Option Entry) → false ≡ isUpdate e → e ≡ some (update c a b) → c′ ≡ c
-    other e h q = let z : false ≡ true = h ∙ ap isUpdate q in absurd (mathlib.Core.Bool.false≢true z)
-
-    go : (t u v w : Bool) → pick t (some (update c′ a′ b′)) (pick u (pick v (some commitEntry) (pick w (some abortEntry) none)) none) ≡ some (update c a b) → c′ ≡ c
-    go true u v w q = cc
-    go false false v w q = other none refl q
-    go false true true w q = other (some commitEntry) refl q
-    go false true false true q = other (some abortEntry) refl q
-    go false true false false q = other none refl q
-
-pub cell-below : (rows : List ℕ) (base slots cells m : ℕ) (c a b : ℕ) → entryIn rows base slots cells m ≡ some (update c a b) → c < cells
-unfolding entryIn
-cell-below rows base slots cells m c a b p =
-    let f = read-fields cells m _ (update c a b) p in
-    subst (λ x. x < cells) (update-cell _ _ _ _ c a b (f .entry)) (f .below)
-
 -- one row restored
 
 pub restore-other : (n : ℕ) (o : Option Entry) (d : Desk) → false ≡ isUpdate o → d ≡ restored n o d
 unfolding restored
 restore-other n none d h = refl
-restore-other n (some (update c a b)) d h = absurd (mathlib.Core.Bool.false≢true h)
+restore-other n (some (update c a b)) d h = absurd (false≢true h)
 restore-other n (some commitEntry) d h = refl
 restore-other n (some abortEntry) d h = refl
 
-pub restore-update : (n : ℕ) (o : Option Entry) (d d′ : Desk) (c a b : ℕ) → o ≡ some (update c a b) → d′ ≡ assigned n c a d → d′ ≡ restored n o d
+pub restore-update : (n : ℕ) (o : Option Entry) (d d′ : Desk) (c a b : ℕ) → some (update c a b) ≡ o → d′ ≡ assigned n c a d → d′ ≡ restored n o d
 unfolding restored
-restore-update n o d d′ c a b p q = q ∙ ap (λ x. restored n x d) (sym p)
+restore-update n o d d′ c a b p q = q ∙ ap (λ x. restored n x d) p
 
 -- the loops
 

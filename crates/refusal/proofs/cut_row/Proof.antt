@@ -1,9 +1,10 @@
 -- `refusal::cut_row` meets its contract. By what the row reads as.
 use borrow.Author.Needs.{needs}
-use mathlib.Core.Path.{sym}
+use mathlib.Core.Path.{ap}
 use native.Mathlib.Omega.{arith}
-use Rattle.workspace.proofs.Restoring.{end-is, update-is, update-true}
-use Rattle.refusal.proofs.Tables.{moved-same, moved-none, moved-end, moved-update, entry-zero, holds-entry, nothing-entry}
+use Rattle.scope.specs.Row.{isEntry, isUpdate}
+use Rattle.journal.proofs.Meanings.{is-nothing, is-some, is-update, is-end}
+use Rattle.refusal.proofs.Tables.{moved-same, moved-none, moved-end, moved-update, entry-zero}
 use Rattle.refusal.proofs.cut_row.Statement.{statement}
 use Rattle.refusal.proofs.cut_row.Tie as tie
 
@@ -23,16 +24,16 @@ enum-told : tie.Need-enum-told
 enum-told c = search needs
 
 returns-3 : tie.Need-returns-3
-returns-3 c = moved-none _ _ _ (omega arith) (nothing-entry _ _ (c .before .before .entry-at .ensures) (c .enum-told .given .1))
+returns-3 c = moved-none _ _ _ (omega arith) (ap isEntry (is-nothing _ _ (c .before .before .entry-at .ensures) (c .enum-told .given .1)))
 
 enum-told-2 : tie.Need-enum-told-2
 enum-told-2 c = search needs
 
 returns-4 : tie.Need-returns-4
-returns-4 c = moved-end _ _ _ (omega arith) (holds-entry _ _ (c .before .before .before .before .entry-at .ensures) _ (c .before .before .what .given .1)) (sym (end-is _ _ (c .before .before .before .before .entry-at .ensures) _ (c .before .before .what .given .1) (c .match2 .keys2)))
+returns-4 c = moved-end _ _ _ (omega arith) (ap isEntry (is-some _ _ (c .before .before .before .before .entry-at .ensures) _ (c .before .before .what .given .1))) (is-end _ _ (c .before .before .before .before .entry-at .ensures) _ (c .before .before .what .given .1) (c .match2 .keys2))
 
 returns-5 : tie.Need-returns-5
-returns-5 c = moved-update _ _ _ (omega arith) (holds-entry _ _ (c .before .before .before .before .before .entry-at .ensures) _ (c .before .before .before .what .given .1)) (sym (update-true _ _ _ _ (update-is _ _ (c .before .before .before .before .before .entry-at .ensures) _ (c .before .before .before .what .given .1) _ _ _ (c .enum-told2 .given .1))))
+returns-5 c = moved-update _ _ _ (omega arith) (ap isEntry (is-some _ _ (c .before .before .before .before .before .entry-at .ensures) _ (c .before .before .before .what .given .1))) (ap isUpdate (is-update _ _ (c .before .before .before .before .before .entry-at .ensures) _ (c .before .before .before .what .given .1) _ _ _ (c .enum-told2 .given .1)))
 
 pub cut-row-spec : {M : Type 1} → statement M
 cut-row-spec =

@@ -1,9 +1,11 @@
 -- `refusal::force` meets its contract. The table cut after its first two tests.
 use borrow.Author.Needs.{needs}
-use mathlib.Core.Path.{refl}
+use mathlib.Core.Path.{refl, ap}
 use native.Mathlib.Omega.{arith}
+use Rattle.scope.specs.Row.{isEntry}
+use Rattle.journal.proofs.Meanings.{is-nothing, is-some}
 use Rattle.refusal.proofs.Lengths.{is-sound, is-lent, rows-fit, pair-fits}
-use Rattle.refusal.proofs.Tables.{fit-true, force-early, force-none, force-entry, force-other, holds-entry, nothing-entry}
+use Rattle.refusal.proofs.Tables.{fit-true, force-early, force-none, force-entry, force-other}
 use Rattle.refusal.proofs.force.Statement.{statement}
 use Rattle.refusal.proofs.force.Tie as tie
 
@@ -48,10 +50,10 @@ enum-told-2 : tie.Need-enum-told-2
 enum-told-2 c = search needs
 
 returns-3 : tie.Need-returns-3
-returns-3 c = force-other _ _ _ _ _ (c .before .before .before .before .before .before .before .before .before .sound .ensures) refl _ _ _ _ _ (c .before .before .before .before .before .before .before .before .before .before .before .before .fits-medium .ensures) (c .before .before .before .before .before .before .before .before .before .before .before .fits-rows .ensures) (c .before .before .before .before .before .before .before .before .before .before .both .ensures) (c .before .before .before .before .before .before .before .before .both2 .ensures) _ (c .before .before .before .before .before .before .before .entered .ensures) (c .before .before .before .before .before .before .if1 .left) (omega arith) (nothing-entry _ _ (c .before .before .entry-at .ensures) (c .enum-told2 .given .1))
+returns-3 c = force-other _ _ _ _ _ (c .before .before .before .before .before .before .before .before .before .sound .ensures) refl _ _ _ _ _ (c .before .before .before .before .before .before .before .before .before .before .before .before .fits-medium .ensures) (c .before .before .before .before .before .before .before .before .before .before .before .fits-rows .ensures) (c .before .before .before .before .before .before .before .before .before .before .both .ensures) (c .before .before .before .before .before .before .before .before .both2 .ensures) _ (c .before .before .before .before .before .before .before .entered .ensures) (c .before .before .before .before .before .before .if1 .left) (omega arith) (ap isEntry (is-nothing _ _ (c .before .before .entry-at .ensures) (c .enum-told2 .given .1)))
 
 returns-4 : tie.Need-returns-4
-returns-4 c = force-entry _ _ _ _ _ (c .before .before .before .before .before .before .before .before .before .sound .ensures) refl _ _ _ _ _ (c .before .before .before .before .before .before .before .before .before .before .before .before .fits-medium .ensures) (c .before .before .before .before .before .before .before .before .before .before .before .fits-rows .ensures) (c .before .before .before .before .before .before .before .before .before .before .both .ensures) (c .before .before .before .before .before .before .before .before .both2 .ensures) _ (c .before .before .before .before .before .before .before .entered .ensures) (c .before .before .before .before .before .before .if1 .left) (omega arith) (holds-entry _ _ (c .before .before .entry-at .ensures) _ (c .enum-told .given .1))
+returns-4 c = force-entry _ _ _ _ _ (c .before .before .before .before .before .before .before .before .before .sound .ensures) refl _ _ _ _ _ (c .before .before .before .before .before .before .before .before .before .before .before .before .fits-medium .ensures) (c .before .before .before .before .before .before .before .before .before .before .before .fits-rows .ensures) (c .before .before .before .before .before .before .before .before .before .before .both .ensures) (c .before .before .before .before .before .before .before .before .both2 .ensures) _ (c .before .before .before .before .before .before .before .entered .ensures) (c .before .before .before .before .before .before .if1 .left) (omega arith) (ap isEntry (is-some _ _ (c .before .before .entry-at .ensures) _ (c .enum-told .given .1)))
 
 pub force-spec : {M : Type 1} → statement M
 force-spec =

@@ -1,6 +1,8 @@
 -- `workspace::is_update` meets its contract. By what the row reads as.
 use borrow.Author.Needs.{needs}
-use Rattle.workspace.proofs.Restoring.{nothing-is, end-is, update-is, update-true}
+use mathlib.Core.Path.{ap}
+use Rattle.scope.specs.Row.{isUpdate}
+use Rattle.journal.proofs.Meanings.{is-nothing, is-update, is-end}
 use Rattle.workspace.proofs.is_update.Statement.{statement}
 use Rattle.workspace.proofs.is_update.Tie as tie
 
@@ -14,16 +16,16 @@ enum-told : tie.Need-enum-told
 enum-told c = search needs
 
 returns : tie.Need-returns
-returns c = nothing-is _ _ (c .before .before .entry-at .ensures) (c .enum-told .given .1)
+returns c = ap isUpdate (is-nothing _ _ (c .before .before .entry-at .ensures) (c .enum-told .given .1))
 
 enum-told-2 : tie.Need-enum-told-2
 enum-told-2 c = search needs
 
 returns-2 : tie.Need-returns-2
-returns-2 c = end-is _ _ (c .before .before .before .before .entry-at .ensures) _ (c .before .before .what .given .1) (c .match2 .keys2)
+returns-2 c = is-end _ _ (c .before .before .before .before .entry-at .ensures) _ (c .before .before .what .given .1) (c .match2 .keys2)
 
 returns-3 : tie.Need-returns-3
-returns-3 c = update-true _ _ _ _ (update-is _ _ (c .before .before .before .before .before .entry-at .ensures) _ (c .before .before .before .what .given .1) _ _ _ (c .enum-told2 .given .1))
+returns-3 c = ap isUpdate (is-update _ _ (c .before .before .before .before .before .entry-at .ensures) _ (c .before .before .before .what .given .1) _ _ _ (c .enum-told2 .given .1))
 
 pub is-update-spec : {M : Type 1} → statement M
 is-update-spec =

@@ -1,7 +1,10 @@
 -- `workspace::restore` meets its contract. By what the row reads as; an update that reads has its cell in the table.
 use borrow.Author.Needs.{needs}
 use native.Mathlib.Omega.{arith}
-use Rattle.workspace.proofs.Restoring.{nothing-is, end-is, update-is, cell-below, restore-other, restore-update}
+use mathlib.Core.Path.{ap}
+use Rattle.scope.specs.Row.{isUpdate}
+use Rattle.journal.proofs.Meanings.{is-nothing, is-update, is-end, entry-below}
+use Rattle.workspace.proofs.Restoring.{restore-other, restore-update}
 use Rattle.workspace.proofs.restore.Statement.{statement}
 use Rattle.workspace.proofs.restore.Tie as tie
 
@@ -15,19 +18,19 @@ enum-told : tie.Need-enum-told
 enum-told c = search needs
 
 returns : tie.Need-returns
-returns c = restore-other _ _ _ (nothing-is _ _ (c .before .before .entry-at .ensures) (c .enum-told .given .1))
+returns c = restore-other _ _ _ (ap isUpdate (is-nothing _ _ (c .before .before .entry-at .ensures) (c .enum-told .given .1)))
 
 enum-known-what-2 : tie.Need-enum-known-what-2
 enum-known-what-2 c = search needs
 
 returns-2 : tie.Need-returns-2
-returns-2 c = restore-other _ _ _ (end-is _ _ (c .before .before .before .before .entry-at .ensures) _ (c .before .before .what .given .1) (c .match2 .keys2))
+returns-2 c = restore-other _ _ _ (is-end _ _ (c .before .before .before .before .entry-at .ensures) _ (c .before .before .what .given .1) (c .match2 .keys2))
 
 assign-requires : tie.Need-assign-requires
 assign-requires c κs =
     let d = c .before .before .before .before in
-    let u = update-is _ _ (d .before .before .before .before .before .entry-at .ensures) _ (d .before .before .before .what .given .1) _ _ _ (d .what2 .given .1) in
-    omega (arith, cell-below _ _ _ _ _ _ _ _ u)
+    let u = is-update _ _ (d .before .before .before .before .before .entry-at .ensures) _ (d .before .before .before .what .given .1) _ _ _ (d .what2 .given .1) in
+    omega (arith, entry-below _ _ _ _ _ _ _ _ u)
 
 same-length : tie.Need-same-length
 same-length c = search needs
@@ -41,7 +44,7 @@ same-length-3 c = search needs
 returns-3 : tie.Need-returns-3
 returns-3 c =
     let d = c .before .before .before .before .before .before .before .before .before .before .before in
-    restore-update _ _ _ _ _ _ _ (update-is _ _ (d .before .before .before .before .before .entry-at .ensures) _ (d .before .before .before .what .given .1) _ _ _ (d .what2 .given .1))
+    restore-update _ _ _ _ _ _ _ (is-update _ _ (d .before .before .before .before .before .entry-at .ensures) _ (d .before .before .before .what .given .1) _ _ _ (d .what2 .given .1))
     (c .before .before .before .before .before .before .assign .ensures)
 
 pub restore-spec : {M : Type 1} → statement M

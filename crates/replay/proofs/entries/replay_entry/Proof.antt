@@ -1,6 +1,7 @@
 -- One entry replayed is replayEntry of what its row reads as, and the answer is openAfter: by the kind of entry.
 use native.Mathlib.Omega.{arith}
-use Rattle.replay.proofs.Turns.{is-nothing, is-update, is-commit, is-abort, entry-below, replay-nothing, replay-update, replay-commit, replay-abort}
+use Rattle.journal.proofs.Meanings.{is-nothing, is-update, is-commit, is-abort, entry-below}
+use Rattle.replay.proofs.Turns.{replay-nothing, replay-update, replay-commit, replay-abort}
 use borrow.Author.Needs.{needs}
 use Rattle.replay.proofs.entries.replay_entry.Statement.{statement}
 use Rattle.replay.proofs.entries.replay_entry.Tie as tie

@@ -5,7 +5,8 @@ use mathlib.Core.Path.{_≡_}
 use native.Mathlib.Omega.{arith}
 use Rattle.scope.specs.Recovery.{rowsOf, entriesFrom, journal}
 use Rattle.replay.specs.Replay.{lastOf}
-use Rattle.replay.proofs.Turns.{is-nothing, is-some, most-fits, scan-starts, scan-done, scan-stop, scan-bad, scan-again}
+use Rattle.journal.proofs.Meanings.{is-nothing, is-some}
+use Rattle.replay.proofs.Turns.{most-fits, scan-starts, scan-done, scan-stop, scan-bad, scan-again}
 use Rattle.replay.proofs.scan.scan.Statement.{statement}
 use Rattle.replay.proofs.scan.scan.Tie as tie
 
