@@ -100,8 +100,8 @@ fn clear(s: &mut [u32])
 
 impl State {
     // Recovery start: reads the entries that count and replays them over the table, undoing what has no end. `first` and `last` become
-    // zero, waiting rows and medium keep their bytes, and nothing is stored. Refuses 1 and 2, with the state of zeros. Goes once over the
-    // journal and the table, and once more over each undone row.
+    // zero, waiting rows and medium keep their bytes, and nothing is stored. Refuses 1 and 2, with the state of zeros. Goes over the entries
+    // that count twice, judged and then replayed, once over the table, and once more over each undone row.
     pub fn recovery_start(
         medium: &[u8],
         current: &mut [u64],
