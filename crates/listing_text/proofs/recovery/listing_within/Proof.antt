@@ -1,3 +1,15 @@
+use lib.ListN.{length}
+use Prim.Native.Nat.{_+_, _*_, _≤_}
+use Rattle.scope.specs.Recovery.{tableOf}
+use Rattle.scope.proofs.TableCells.{length-table}
+use Rattle.listing_text.specs.Text.{refusedKey}
+use Rattle.listing_text.proofs.Writing.{wrote-same, length-line, length-table-text}
+use Rattle.listing_text.proofs.Recovered.{listing-refused, listing-done}
+use Rattle.keeper.specs.Answers.{answered}
+use Rattle.keeper.proofs.Recovering.{head-fits}
+use mathlib.Core.Bool.{true}
+use mathlib.Core.Path.{refl, sym, ap}
+use native.Mathlib.Omega.{arith}
 use borrow.Author.Needs.{needs}
 use Rattle.listing_text.proofs.recovery.listing_within.Statement.{statement}
 use Rattle.listing_text.proofs.recovery.listing_within.Tie as tie
@@ -11,11 +23,11 @@ use Rattle.number.proofs.get4.Reads as get4-reads
 
 -- src/recovery.rt:63:9
 get4-requires : tie.Need-get4-requires
-get4-requires c κs = ?
+get4-requires c κs = let f = head-fits (c .before .before .before .before .before .before .before .args .medium .now) true (sym (c .before .before .before .before .before .before .before .pre .0 .ok)) refl in omega arith
 
 -- src/recovery.rt:64:9
 get4-requires-2 : tie.Need-get4-requires-2
-get4-requires-2 c κs = ?
+get4-requires-2 c κs = let f = head-fits (c .before .before .before .before .before .before .before .before .before .args .medium .now) true (sym (c .before .before .before .before .before .before .before .before .before .pre .0 .ok)) refl in omega arith
 
 -- src/recovery.rt:65:9
 recovery-start-requires : tie.Need-recovery-start-requires
@@ -55,14 +67,17 @@ same-length-5 c = search needs
 
 -- src/recovery.rt:68:9
 returns : tie.Need-returns
-returns c = ?
+returns c = 
+    let a = c .before .before .before .before .before .before .before .before .before .before .before .before .before .before .before .before .before .before .before .before .before .before .before .before .before .before .before .before .before .args in
+    (wrote-same (c .before .before .put-line .ensures) (listing-refused (a .medium .now) (a .current .now) (a .first .now) (a .last .now) (a .waiting .now) (c .before .before .before .before .before .before .before .before .before .before .before .before .before .before .before .before .before .before .before .before .before .before .before .before .before .before .before .before .before .pre .0) _ (c .before .before .before .before .before .before .before .before .before .before .before .before .before .before .recovery-start .result .state) _ _ _ (c .before .before .before .before .before .before .before .before .before .before .before .before .before .before .recovery-start .ensures) _ (ap answered (c .before .before .before .before .before .before .answer .given .1))),
+    omega (arith, length-line refusedKey (c .before .before .before .before .before .before .answer .given .0 .0), c .before .before .put-line .ensures .end, c .before .before .put-line .kept, c .before .before .before .before .before .before .before .before .before .before .before .before .before .before .before .before .before .before .before .before .before .before .before .before .before .before .before .before .before .pre .1))
 
 enum-told : tie.Need-enum-told
 enum-told c = search needs
 
 -- src/recovery.rt:71:22
 add-settle : tie.Need-add-settle
-add-settle c = ?
+add-settle c = let f = head-fits (c .before .before .before .before .before .before .before .before .before .before .before .before .before .before .before .before .before .before .before .before .before .before .before .before .args .medium .now) true (sym (c .before .before .before .before .before .before .before .before .before .before .before .before .before .before .before .before .before .before .before .before .before .before .before .before .pre .0 .ok)) refl in omega (arith, c .before .before .before .before .before .before .before .before .before .before .before .before .before .before .before .before .get4 .ensures)
 
 -- src/recovery.rt:71:9
 settle-requires : tie.Need-settle-requires
@@ -70,7 +85,10 @@ settle-requires c κs = search needs
 
 -- src/recovery.rt:72:5
 put-table-requires : tie.Need-put-table-requires
-put-table-requires c κs = ?
+put-table-requires c κs = 
+    let f = head-fits (c .before .before .before .before .before .before .before .before .before .before .before .before .before .before .before .before .before .before .before .before .before .before .before .before .before .before .before .before .before .before .before .args .medium .now) true (sym (c .before .before .before .before .before .before .before .before .before .before .before .before .before .before .before .before .before .before .before .before .before .before .before .before .before .before .before .before .before .before .before .pre .0 .ok)) refl in
+    let q : 50 + 62 * c .before .before .before .before .before .before .before .before .before .before .before .before .before .before .before .before .before .before .before .before .before .before .before .get4 .result ≤ length (c .before .before .before .before .before .before .before .before .before .before .before .before .before .before .before .before .before .before .before .before .before .before .before .before .before .before .before .before .before .before .before .args .text .now) = omega (arith, c .before .before .before .before .before .before .before .before .before .before .before .before .before .before .before .before .before .before .before .before .before .before .before .get4 .ensures, c .before .before .before .before .before .before .before .before .before .before .before .before .before .before .before .before .before .before .before .before .before .before .before .before .before .before .before .before .before .before .before .pre .1) in
+    (omega (arith, c .before .before .before .before .before .before .before .before .before .before .before .before .before .before .before .before .before .before .before .before .before .before .before .get4 .ensures, c .before .before .before .before .before .before .before .before .before .before .before .before .before .before .before .before .before .before .before .before .before .get42 .ensures, c .before .before .before .before .settle .kept), q)
 
 -- src/recovery.rt:50:1
 same-length-6 : tie.Need-same-length-6
@@ -94,7 +112,11 @@ same-length-10 c = search needs
 
 -- src/recovery.rt:50:1
 returns-2 : tie.Need-returns-2
-returns-2 c = ?
+returns-2 c = 
+    let a = c .before .before .before .before .before .before .before .before .before .before .before .before .before .before .before .before .before .before .before .before .before .before .before .before .before .before .before .before .before .before .before .before .before .before .args in
+    let f = head-fits (c .before .before .before .before .before .before .before .before .before .before .before .before .before .before .before .before .before .before .before .before .before .before .before .before .before .before .before .before .before .before .before .before .before .before .args .medium .now) true (sym (c .before .before .before .before .before .before .before .before .before .before .before .before .before .before .before .before .before .before .before .before .before .before .before .before .before .before .before .before .before .before .before .before .before .before .pre .0 .ok)) refl in
+    (wrote-same (c .before .before .put-table .ensures) (listing-done (a .medium .now) (a .current .now) (a .first .now) (a .last .now) (a .waiting .now) (c .before .before .before .before .before .before .before .before .before .before .before .before .before .before .before .before .before .before .before .before .before .before .before .before .before .before .before .before .before .before .before .before .before .before .pre .0) _ (c .before .before .before .before .before .before .before .before .before .before .before .before .before .before .before .before .before .before .before .recovery-start .result .state) _ _ _ (c .before .before .before .before .before .before .before .before .before .before .before .before .before .before .before .before .before .before .before .recovery-start .ensures) _ _ (c .before .before .before .before .before .before .before .before .before .before .before .before .before .before .before .before .before .before .before .before .before .before .before .before .before .before .get4 .ensures) (c .before .before .before .before .before .before .before .before .before .before .before .before .before .before .before .before .before .before .before .before .before .before .before .before .get42 .ensures) (c .before .before .before .before .before .before .before .settle .result) _ (c .before .before .before .before .before .before .before .settle .ensures) _ (ap answered (c .before .before .before .before .before .before .before .before .before .before .before .enum-told .given .1))),
+    omega (arith, c .before .before .put-table .ensures .end, c .before .before .put-table .kept, c .before .before .before .before .before .before .before .before .before .before .before .before .before .before .before .before .before .before .before .before .before .before .before .before .before .before .before .before .before .before .before .before .before .before .pre .1, c .before .before .before .before .before .before .before .before .before .before .before .before .before .before .before .before .before .before .before .before .before .before .before .before .before .before .get4 .ensures, length-table-text (c .before .before .before .before .before .before .before .before .before .before .before .before .before .before .before .before .before .before .before .before .before .before .before .before .before .before .get4 .result) (c .before .before .before .before .before .before .before .before .before .before .before .before .before .before .before .before .before .before .before .before .before .before .before .before .get42 .result) (c .before .before .before .before .before .before .before .settle .result .numbers .h) (tableOf (c .before .before .before .before .before .before .before .before .before .before .before .before .before .before .before .before .before .before .before .before .before .before .before .before .before .before .get4 .result) (c .before .before .before .before .before .before .before .before .before .before .before .before .before .before .before .before .before .before .before .before .before .before .before .before .get42 .result) (c .before .before .before .before .before .before .before .settle .last .1 .1 .0)), length-table (c .before .before .before .before .before .before .before .before .before .before .before .before .before .before .before .before .before .before .before .before .before .before .before .before .before .before .get4 .result) (c .before .before .before .before .before .before .before .before .before .before .before .before .before .before .before .before .before .before .before .before .before .before .before .before .get42 .result) (c .before .before .before .before .before .before .before .settle .last .1 .1 .0)))
 
 pub listing-within-spec : {M : Type 1} → statement M
 listing-within-spec =
