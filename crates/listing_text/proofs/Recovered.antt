@@ -13,6 +13,7 @@ use Rattle.scope.specs.Calls.{recoveryStart, recoveryStep, unlessStart, act}
 use Rattle.scope.proofs.Frames.{onto, frame}
 use Rattle.state.specs.State.{stateOf}
 use Rattle.refusal.specs.Lent.{lentTo}
+use Rattle.keeper.proofs.Recovering.{head-fits}
 use Rattle.keeper.specs.Answers.{handed, stateless, leaves}
 use Rattle.keeper.specs.declared.State.{State}
 use Rattle.listing_text.specs.Text.{line, refusedKey, tableText}
@@ -92,7 +93,24 @@ module _ (m current first last waiting : List ℕ) (d : Desk m current first las
 
 -- zeros
 
-pub take-zeros : (n k : ℕ) → n ≤ k → take n (replicate {A = ℕ} k 0) ≡ replicate n 0
+take-zeros : (n k : ℕ) → n ≤ k → take n (replicate {A = ℕ} k 0) ≡ replicate n 0
 take-zeros zero k h = refl
 take-zeros (suc n) zero h = absurd (omega arith)
 take-zeros (suc n) (suc k) h = ap (λ l. 0 ∷ l) (take-zeros n k (omega arith))
+
+part-zeros : (xs : List ℕ) (k n j : ℕ) → xs ≡ replicate k 0 → n ≡ j → j ≤ k → take n xs ≡ replicate j 0
+part-zeros xs k n j e q h = ap (take n) e ∙ ap (λ i. take i (replicate {A = ℕ} k 0)) q ∙ take-zeros j k h
+
+-- parts of workspaces of zeros, as a head in rule says
+pub desk : (m current first last waiting : List ℕ) (n w : ℕ) (t : Bool) → t ≡ headOk m → t ≡ true → n ≡ numberAt 4 0 m → w ≡ 32 * numberAt 4 4 m
+    → current ≡ replicate 1024 0 → first ≡ replicate 1024 0 → last ≡ replicate 1024 0 → waiting ≡ replicate 32768 0
+    → Desk m (take n current) (take n first) (take n last) (take w waiting)
+desk m current first last waiting n w t e p qn qw c f l r =
+    let h = head-fits m t e p in
+    record {
+      ok = sym e ∙ p;
+      current-zero = part-zeros current 1024 n (numberAt 4 0 m) c qn (h .cells≤);
+      first-zero = part-zeros first 1024 n (numberAt 4 0 m) f qn (h .cells≤);
+      last-zero = part-zeros last 1024 n (numberAt 4 0 m) l qn (h .cells≤);
+      waiting-zero = part-zeros waiting 32768 w (32 * numberAt 4 4 m) r qw (omega (arith, h .slots≤));
+    }

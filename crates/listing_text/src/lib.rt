@@ -5,13 +5,32 @@ pub mod text;
 
 ghost use mathlib.Core.Path.{_≡_};
 ghost use Prim.Native.Nat.{_+_, _*_, _≤_};
-ghost use lib.ListN.{length};
+ghost use lib.ListN.{length, replicate};
 ghost use Rattle.listing_text.specs.Text.{Wrote};
 ghost use Rattle.listing_text.specs.Listing.{listing};
 use medium::head::head_ok;
 use medium::layout::index;
 use recovery::listing_within;
 use text::put_line;
+
+// Workspaces of zeros, as long as the largest medium asks.
+fn no_values() -> [u64; 1024]
+    ensures { λ r. ⌜ (length r ≡ 1024) × (r ≡ replicate 1024 0) ⌝ }
+{
+    [0; 1024]
+}
+
+fn no_numbers() -> [u32; 1024]
+    ensures { λ r. ⌜ (length r ≡ 1024) × (r ≡ replicate 1024 0) ⌝ }
+{
+    [0; 1024]
+}
+
+fn no_rows() -> [u8; 32768]
+    ensures { λ r. ⌜ (length r ≡ 32768) × (r ≡ replicate 32768 0) ⌝ }
+{
+    [0; 32768]
+}
 
 // Writes the listing of the medium at the start of the text, of which 65,536 bytes are enough for any medium, and answers its length. The
 // medium is recovered where it stands. Goes over the table once for each cell that recovery stores.
@@ -26,9 +45,9 @@ pub fn listing(medium: &mut [u8], text: &mut [u8]) -> usize
     }
     let cells = index(number::get4(medium, 0));
     let rows = 32 * index(number::get4(medium, 4));
-    let mut current = [0u64; 1024];
-    let mut first = [0u32; 1024];
-    let mut last = [0u32; 1024];
-    let waiting = [0u8; 32768];
+    let mut current = no_values();
+    let mut first = no_numbers();
+    let mut last = no_numbers();
+    let waiting = no_rows();
     listing_within(medium, &mut current[0..cells], &mut first[0..cells], &mut last[0..cells], &waiting[0..rows], text)
 }
