@@ -1,0 +1,125 @@
+// Text in a lent buffer: each function writes from a place on and answers the place after it.
+ghost use mathlib.Core.Path.{_≡_};
+ghost use mathlib.Core.List.{_∷_, []};
+ghost use Prim.Native.Nat.{_+_, _*_, _<_, _≤_};
+ghost use lib.ListN.{length};
+ghost use Rattle.scope.specs.Recovery.{tableOf};
+ghost use Rattle.listing_text.specs.Text.{Wrote, digits, decimal, line, releaseLine, cellText, cellsText, tableText};
+use medium::layout::cell_at;
+use medium::layout::index;
+
+// One byte.
+fn put_byte(byte: u8, text: &mut [u8], at: usize) -> usize
+    requires { ⌜ at < length (now text) ⌝ }
+    ensures { λ r. ⌜ Wrote (now (text .entry)) at (byte ∷ []) (now (text .exit)) r ⌝ }
+{
+    text[at] = byte;
+    at + 1
+}
+
+// Bytes, one after the other.
+fn put_bytes(bytes: &[u8], text: &mut [u8], at: usize) -> usize
+    requires { ⌜ at + length (now bytes) ≤ length (now text) ⌝ }
+    ensures { λ r. ⌜ Wrote (now (text .entry)) at (now (bytes .entry)) (now (text .exit)) r ⌝ }
+{
+    let mut i = 0;
+    while i < bytes.len() {
+        text[at + i] = bytes[i];
+        i += 1;
+    }
+    at + i
+}
+
+// The digit of a number below ten.
+fn digit(n: u32) -> u8
+    requires { ⌜ n < 10 ⌝ }
+    ensures { λ r. ⌜ r ≡ 48 + n ⌝ }
+{
+    (48 + n) as u8
+}
+
+// At most so many digits of a number, the highest first: those before the last, then the last.
+fn put_digits(left: u32, n: u32, text: &mut [u8], at: usize) -> usize
+    requires { ⌜ at + left ≤ length (now text) ⌝ }
+    ensures { λ r. ⌜ Wrote (now (text .entry)) at (digits left n) (now (text .exit)) r ⌝ }
+{
+    if left == 0 {
+        return at;
+    }
+    if n < 10 {
+        return put_byte(digit(n), text, at);
+    }
+    let last = put_digits(left - 1, n / 10, text, at);
+    put_byte(digit(n % 10), text, last)
+}
+
+// A number in decimal: ten bytes at most.
+fn put_decimal(n: u32, text: &mut [u8], at: usize) -> usize
+    requires { ⌜ at + 10 ≤ length (now text) ⌝ }
+    ensures { λ r. ⌜ Wrote (now (text .entry)) at (decimal n) (now (text .exit)) r ⌝ }
+{
+    put_digits(10, n, text, at)
+}
+
+// A line: key, number, line end.
+pub fn put_line(key: &[u8], n: u32, text: &mut [u8], at: usize) -> usize
+    requires { ⌜ at + length (now key) + 11 ≤ length (now text) ⌝ }
+    ensures { λ r. ⌜ Wrote (now (text .entry)) at (line (now (key .entry)) n) (now (text .exit)) r ⌝ }
+{
+    let number = put_bytes(key, text, at);
+    let end = put_decimal(n, text, number);
+    put_byte(b'\n', text, end)
+}
+
+// The release: major, a point, minor.
+fn put_release(major: u32, minor: u32, text: &mut [u8], at: usize) -> usize
+    requires { ⌜ at + 30 ≤ length (now text) ⌝ }
+    ensures { λ r. ⌜ Wrote (now (text .entry)) at (releaseLine major minor) (now (text .exit)) r ⌝ }
+{
+    let number = put_bytes(b"release=", text, at);
+    let point = put_decimal(major, text, number);
+    let second = put_byte(b'.', text, point);
+    let end = put_decimal(minor, text, second);
+    put_byte(b'\n', text, end)
+}
+
+// The three lines of a cell, 62 bytes at most; of an empty one none.
+fn put_cell(cell: u32, value: u64, text: &mut [u8], at: usize) -> usize
+    requires { ⌜ at + 62 ≤ length (now text) ⌝ }
+    ensures { λ r. ⌜ Wrote (now (text .entry)) at (cellText cell value) (now (text .exit)) r ⌝ }
+{
+    if value == 0 {
+        return at;
+    }
+    let part = put_line(b"cell=", cell, text, at);
+    let release = put_line(b"part=", (value % 4294967296) as u32, text, part);
+    let major = (value / 4294967296 % 65536) as u32;
+    let minor = (value / 281474976710656 % 65536) as u32;
+    put_release(major, minor, text, release)
+}
+
+// The cells of the medium's table by rising number.
+fn put_cells(medium: &[u8], slots: u32, cells: u32, text: &mut [u8], at: usize) -> usize
+    requires { ⌜ (32 + 32 * slots + 8 * cells ≤ length (now medium)) × (at + 62 * cells ≤ length (now text)) ⌝ }
+    ensures { λ r. ⌜ Wrote (now (text .entry)) at (cellsText 0 (tableOf cells slots (now (medium .entry)))) (now (text .exit)) r ⌝ }
+{
+    let base = cell_at(slots, 0);
+    let mut end = at;
+    let mut i: u32 = 0;
+    while i < cells {
+        end = put_cell(i, number::get8(medium, base + 8 * index(i)), text, end);
+        i += 1;
+    }
+    end
+}
+
+// N, C and h, then the table.
+pub fn put_table(medium: &[u8], cells: u32, slots: u32, h: u32, text: &mut [u8]) -> usize
+    requires { ⌜ (32 + 32 * slots + 8 * cells ≤ length (now medium)) × (50 + 62 * cells ≤ length (now text)) ⌝ }
+    ensures { λ r. ⌜ Wrote (now (text .entry)) 0 (tableText cells slots h (tableOf cells slots (now (medium .entry)))) (now (text .exit)) r ⌝ }
+{
+    let second = put_line(b"cells=", cells, text, 0);
+    let third = put_line(b"slots=", slots, text, second);
+    let table = put_line(b"head=", h, text, third);
+    put_cells(medium, slots, cells, text, table)
+}
