@@ -1,0 +1,64 @@
+-- A call over the boundary, for every call: done on the state in the slice, or refused with 1 where the slice holds none.
+use Prim.Native.Nat.{ℕ}
+use mathlib.Core.Path.{_≡_, refl, sym, ap, _∙_}
+use mathlib.Core.Bool.{Bool, true, false}
+use mathlib.Core.List.{List, []}
+use borrow.Author.Tests.{eq-eqb, ne-eqb}
+use lib.Dec.{eqb}
+use lib.ListN.{length}
+use Rattle.scope.specs.Bytes.{pick}
+use Rattle.scope.specs.Keeper.{Keeper, Answer, Outcome, State, refused, noState, refusalOf}
+use Rattle.state.specs.State.{stateOf}
+use Rattle.refusal.specs.Lent.{lentTo}
+use Rattle.keeper.specs.Answers.{handed, stateless, leaves}
+use Rattle.keeper.specs.declared.State as code
+use Rattle.boundary.specs.Boundary.{numbersOf, isState, seven, stateIn, stateAfter, Result, result, noValue, lentOver, handedBack, over, startOver}
+
+module _ (xs m c f l w : List ℕ) (t : Bool) (e : t ≡ isState xs) where
+  -- the keeper that is lent
+
+  pub lent-state : t ≡ true → (s : code.State) → stateOf (s .numbers) (s .phase) ≡ seven xs → handed s m c f l w ≡ lentOver xs m c f l w
+  unfolding handed lentTo lentOver stateIn
+  lent-state p s q =
+      ap (λ (x : State). record { medium = m; current = c; first = f; last = l; waiting = w; state = x })
+      (q ∙ ap (λ b. pick b (seven xs) noState) (sym p ∙ e))
+
+  pub lent-none : t ≡ false → stateless m c f l w ≡ lentOver xs m c f l w
+  unfolding stateless lentOver stateIn
+  lent-none p =
+      ap (λ b. record { medium = m; current = c; first = f; last = l; waiting = w; state = pick b (seven xs) noState }) (sym p ∙ e)
+
+  module _ (value : Answer → ℕ) (call : Keeper → Outcome) where
+    pub crossed : t ≡ true → (s next : code.State) (a : Answer) (m2 c2 f2 l2 w2 : List ℕ) (number v : ℕ) (ys : List ℕ)
+        → stateOf (s .numbers) (s .phase) ≡ seven xs → leaves a next m2 c2 f2 l2 w2 ≡ call (handed s m c f l w) → number ≡ refusalOf a → v ≡ value a
+        → ys ≡ numbersOf (stateOf (next .numbers) (next .phase)) → result number v ys m2 c2 f2 l2 w2 ≡ over value call xs m c f l w
+    unfolding over handedBack stateAfter leaves handed lentTo
+    crossed p s next a m2 c2 f2 l2 w2 number v ys q d n u y =
+        let o : Outcome = leaves a next m2 c2 f2 l2 w2 in
+        rw (n, u, y)
+        (ap (λ b. handedBack value (pick b (numbersOf (o .keeper .state)) xs) o) (sym p ∙ e)
+        ∙ ap (λ (x : Outcome). handedBack value (stateAfter xs (x .keeper .state)) x) (d ∙ ap call (lent-state p s q)))
+
+    pub no-state : t ≡ false → value (refused 1) ≡ 0 → call (stateless m c f l w) ≡ record { answer = refused 1; keeper = stateless m c f l w }
+        → result 1 0 xs m c f l w ≡ over value call xs m c f l w
+    unfolding over handedBack stateAfter stateless
+    no-state p z r =
+        let o : Outcome = record { answer = refused 1; keeper = stateless m c f l w } in
+        rw (← z)
+        (ap (λ b. handedBack value (pick b (numbersOf noState) xs) o) (sym p ∙ e)
+        ∙ ap (λ (x : Outcome). handedBack value (stateAfter xs (x .keeper .state)) x) (sym r ∙ ap call (lent-none p)))
+
+-- recovery start
+
+module _ (xs m c f l w : List ℕ) (call : Keeper → Outcome) where
+  pub start-other : (length xs ≡ 7 → ⊥) → result 1 0 xs m c f l w ≡ startOver call xs m c f l w
+  unfolding startOver
+  start-other h = simp (ne-eqb (length xs) 7 h)
+
+  pub start-crossed : length xs ≡ 7 → (next : code.State) (a : Answer) (m2 c2 f2 l2 w2 : List ℕ) (number : ℕ) (ys : List ℕ)
+      → leaves a next m2 c2 f2 l2 w2 ≡ call (stateless m c f l w) → number ≡ refusalOf a → ys ≡ numbersOf (stateOf (next .numbers) (next .phase))
+      → result number 0 ys m2 c2 f2 l2 w2 ≡ startOver call xs m c f l w
+  unfolding startOver handedBack leaves handed lentTo stateless
+  start-crossed h next a m2 c2 f2 l2 w2 number ys d n y =
+      rw (n, y)
+      (ap (λ (x : Outcome). handedBack noValue (numbersOf (x .keeper .state)) x) d ∙ simp (eq-eqb (length xs) 7 h))

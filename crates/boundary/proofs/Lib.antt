@@ -1,0 +1,5 @@
+pub mod Crossing
+pub mod Places
+pub mod RowLaws
+pub mod SevenNumbers
+pub mod Unsound

@@ -1,0 +1,139 @@
+// The state as seven numbers, and answers as a number and a value.
+ghost use mathlib.Core.Path.{_≡_};
+ghost use lib.ListN.{length};
+ghost use Rattle.scope.specs.Keeper.{refusalOf, valueOf};
+ghost use Rattle.state.specs.State.{phaseOf, stateOf};
+ghost use Rattle.keeper.specs.Answers.{answered, stepped, writtenBack};
+ghost use Rattle.boundary.specs.Boundary.{phaseNo, phaseIn, numbersOf, isState, seven, stepValue, backValue};
+use keeper::Answer;
+use keeper::Back;
+use keeper::State;
+use keeper::Step;
+use state::Numbers;
+use state::Phase;
+
+// Whether the slice holds a state.
+pub fn is_state(s: &[u32]) -> bool
+    ensures { λ r. ⌜ r ≡ isState (now (s .entry)) ⌝ }
+{
+    if s.len() != 7 {
+        return false;
+    }
+    s[6] <= 2
+}
+
+// The phase of a number up to 2.
+fn phase_in(n: u32) -> Phase
+    ensures { λ r. ⌜ phaseOf r ≡ phaseIn n ⌝ }
+{
+    match n {
+        0 => Phase::Idle,
+        1 => Phase::Run,
+        2..=4294967295 => Phase::Recovering,
+    }
+}
+
+fn phase_number(phase: Phase) -> u32
+    ensures { λ r. ⌜ r ≡ phaseNo (phaseOf phase) ⌝ }
+{
+    match phase {
+        Phase::Idle => 0,
+        Phase::Run => 1,
+        Phase::Recovering => 2,
+    }
+}
+
+// The state in seven numbers.
+pub fn state_in(s: &[u32]) -> State
+    requires { ⌜ length (now s) ≡ 7 ⌝ }
+    ensures { λ r. ⌜ stateOf (r .numbers) (r .phase) ≡ seven (now (s .entry)) ⌝ }
+{
+    let numbers = Numbers {
+        cells: s[0],
+        slots: s[1],
+        h: s[2],
+        f: s[3],
+        l: s[4],
+        o: s[5],
+    };
+    let phase = phase_in(s[6]);
+    State { numbers, phase }
+}
+
+// The state put back as seven numbers.
+pub fn put_state(s: &mut [u32], state: State)
+    requires { ⌜ length (now s) ≡ 7 ⌝ }
+    ensures { λ _. ⌜ now (s .exit) ≡ numbersOf (stateOf (state .numbers) (state .phase)) ⌝ }
+{
+    let numbers = state.numbers;
+    let phase = state.phase;
+    s[0] = numbers.cells;
+    s[1] = numbers.slots;
+    s[2] = numbers.h;
+    s[3] = numbers.f;
+    s[4] = numbers.l;
+    s[5] = numbers.o;
+    s[6] = phase_number(phase);
+}
+
+pub fn number_of(answer: Answer) -> u32
+    ensures { λ r. ⌜ r ≡ refusalOf (answered answer) ⌝ }
+{
+    match answer {
+        Answer::Done(_) => 0,
+        Answer::Refused(number) => number,
+    }
+}
+
+pub fn value_of(answer: Answer) -> u64
+    ensures { λ r. ⌜ r ≡ valueOf (answered answer) ⌝ }
+{
+    match answer {
+        Answer::Done(value) => value,
+        Answer::Refused(_) => 0,
+    }
+}
+
+pub fn step_number(answer: Step) -> u32
+    ensures { λ r. ⌜ r ≡ refusalOf (stepped answer) ⌝ }
+{
+    match answer {
+        Step::Cell(_) => 0,
+        Step::Head => 0,
+        Step::Clean => 0,
+        Step::Refused(number) => number,
+    }
+}
+
+// The cell, or 2^32 for the head, or 2^32 + 1 for nothing stored.
+pub fn step_value(answer: Step) -> u64
+    ensures { λ r. ⌜ r ≡ stepValue (stepped answer) ⌝ }
+{
+    match answer {
+        Step::Cell(cell) => cell as u64,
+        Step::Head => 4294967296,
+        Step::Clean => 4294967297,
+        Step::Refused(_) => 0,
+    }
+}
+
+pub fn back_number(answer: Back) -> u32
+    ensures { λ r. ⌜ r ≡ refusalOf (writtenBack answer) ⌝ }
+{
+    match answer {
+        Back::Stored => 0,
+        Back::Clean => 0,
+        Back::Refused(number) => number,
+    }
+}
+
+// 1 for stored, 0 for clean.
+pub fn back_value(answer: Back) -> u64
+    ensures { λ r. ⌜ r ≡ backValue (writtenBack answer) ⌝ }
+{
+    match answer {
+        Back::Stored => 1,
+        Back::Clean => 0,
+        Back::Refused(_) => 0,
+    }
+}

@@ -1,0 +1,55 @@
+// Recovery: a start, then steps.
+ghost use mathlib.Core.Path.{_≡_};
+ghost use mathlib.Core.List.{[]};
+ghost use Rattle.scope.specs.Calls.{recoveryStart, recoveryStep};
+ghost use Rattle.boundary.specs.Boundary.{stepValue, result, over, startOver};
+use crate::numbers::is_state;
+use crate::numbers::number_of;
+use crate::numbers::put_state;
+use crate::numbers::state_in;
+use crate::numbers::step_number;
+use crate::numbers::step_value;
+use keeper::State;
+
+#[no_mangle]
+pub extern "C" fn keeper_recovery_start(
+    medium: &[u8],
+    current: &mut [u64],
+    first: &mut [u32],
+    last: &mut [u32],
+    waiting: &[u8],
+    state: &mut [u32],
+) -> u32
+    ensures { λ r. ⌜ result r 0 (now (state .exit)) (now (medium .entry)) (now (current .exit)) (now (first .exit)) (now (last .exit)) (now (waiting .entry)) ≡ startOver recoveryStart (now (state .entry)) (now (medium .entry)) (now (current .entry)) (now (first .entry)) (now (last .entry)) (now (waiting .entry)) ⌝ }
+{
+    if state.len() != 7 {
+        return 1;
+    }
+    let out = State::recovery_start(medium, current, first, last, waiting);
+    let next = out.state;
+    put_state(state, next);
+    let answer = out.answer;
+    number_of(answer)
+}
+
+#[no_mangle]
+pub extern "C" fn keeper_recovery_step(
+    state: &mut [u32],
+    medium: &mut [u8],
+    current: &[u64],
+    value: &mut u64,
+) -> u32
+    ensures { λ r. ⌜ result r (now (value .exit)) (now (state .exit)) (now (medium .exit)) (now (current .entry)) [] [] [] ≡ over stepValue recoveryStep (now (state .entry)) (now (medium .entry)) (now (current .entry)) [] [] [] ⌝ }
+{
+    let held = is_state(state);
+    if held {} else {
+        *value = 0;
+        return 1;
+    }
+    let out = state_in(state).recovery_step(medium, current);
+    let next = out.state;
+    put_state(state, next);
+    let answer = out.answer;
+    *value = step_value(answer);
+    step_number(answer)
+}

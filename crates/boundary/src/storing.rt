@@ -1,0 +1,84 @@
+// What reaches the medium: format, force, write-back, cut.
+ghost use mathlib.Core.Path.{_≡_};
+ghost use mathlib.Core.List.{[]};
+ghost use Rattle.scope.specs.Keeper.{valueOf, refusalOf};
+ghost use Rattle.scope.specs.Calls.{format, force, writeBack, cut};
+ghost use Rattle.medium.specs.Lent.{onMedium};
+ghost use Rattle.boundary.specs.Boundary.{noValue, backValue, result, over};
+use crate::numbers::back_number;
+use crate::numbers::back_value;
+use crate::numbers::is_state;
+use crate::numbers::number_of;
+use crate::numbers::put_state;
+use crate::numbers::state_in;
+use crate::numbers::value_of;
+
+#[no_mangle]
+pub extern "C" fn keeper_format(medium: &mut [u8], cells: u32, slots: u32) -> u32
+    ensures number { λ r. ⌜ r ≡ refusalOf (format cells slots (onMedium (now (medium .entry))) .answer) ⌝ }
+    ensures bytes { λ _. ⌜ now (medium .exit) ≡ format cells slots (onMedium (now (medium .entry))) .keeper .medium ⌝ }
+{
+    medium::head::format(medium, cells, slots)
+}
+
+#[no_mangle]
+pub extern "C" fn keeper_force(
+    state: &mut [u32],
+    medium: &mut [u8],
+    waiting: &[u8],
+    value: &mut u64,
+) -> u32
+    ensures { λ r. ⌜ result r (now (value .exit)) (now (state .exit)) (now (medium .exit)) [] [] [] (now (waiting .entry)) ≡ over valueOf force (now (state .entry)) (now (medium .entry)) [] [] [] (now (waiting .entry)) ⌝ }
+{
+    let held = is_state(state);
+    if held {} else {
+        *value = 0;
+        return 1;
+    }
+    let out = state_in(state).force(medium, waiting);
+    let next = out.state;
+    put_state(state, next);
+    let answer = out.answer;
+    *value = value_of(answer);
+    number_of(answer)
+}
+
+#[no_mangle]
+pub extern "C" fn keeper_write_back(
+    state: &mut [u32],
+    cell: u32,
+    medium: &mut [u8],
+    current: &[u64],
+    first: &mut [u32],
+    last: &[u32],
+    value: &mut u64,
+) -> u32
+    ensures { λ r. ⌜ result r (now (value .exit)) (now (state .exit)) (now (medium .exit)) (now (current .entry)) (now (first .exit)) (now (last .entry)) [] ≡ over backValue (writeBack cell) (now (state .entry)) (now (medium .entry)) (now (current .entry)) (now (first .entry)) (now (last .entry)) [] ⌝ }
+{
+    let held = is_state(state);
+    if held {} else {
+        *value = 0;
+        return 1;
+    }
+    let out = state_in(state).write_back(cell, medium, current, first, last);
+    let next = out.state;
+    put_state(state, next);
+    let answer = out.answer;
+    *value = back_value(answer);
+    back_number(answer)
+}
+
+#[no_mangle]
+pub extern "C" fn keeper_cut(state: &mut [u32], p: u32, medium: &mut [u8], first: &[u32]) -> u32
+    ensures { λ r. ⌜ result r 0 (now (state .exit)) (now (medium .exit)) [] (now (first .entry)) [] [] ≡ over noValue (cut p) (now (state .entry)) (now (medium .entry)) [] (now (first .entry)) [] [] ⌝ }
+{
+    let held = is_state(state);
+    if held {} else {
+        return 1;
+    }
+    let out = state_in(state).cut(p, medium, first);
+    let next = out.state;
+    put_state(state, next);
+    let answer = out.answer;
+    number_of(answer)
+}

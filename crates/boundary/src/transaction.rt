@@ -1,0 +1,110 @@
+// One transaction: begin, read, write, commit, abort.
+ghost use mathlib.Core.Path.{_≡_};
+ghost use mathlib.Core.List.{[]};
+ghost use Rattle.scope.specs.Keeper.{valueOf};
+ghost use Rattle.scope.specs.Calls.{begin, read, write, commit, abort};
+ghost use Rattle.boundary.specs.Boundary.{noValue, result, over};
+use crate::numbers::is_state;
+use crate::numbers::number_of;
+use crate::numbers::put_state;
+use crate::numbers::state_in;
+use crate::numbers::value_of;
+
+#[no_mangle]
+pub extern "C" fn keeper_begin(
+    state: &mut [u32],
+    current: &mut [u64],
+    first: &mut [u32],
+    last: &mut [u32],
+    waiting: &mut [u8],
+) -> u32
+    ensures { λ r. ⌜ result r 0 (now (state .exit)) [] (now (current .exit)) (now (first .exit)) (now (last .exit)) (now (waiting .exit)) ≡ over noValue begin (now (state .entry)) [] (now (current .entry)) (now (first .entry)) (now (last .entry)) (now (waiting .entry)) ⌝ }
+{
+    let held = is_state(state);
+    if held {} else {
+        return 1;
+    }
+    let out = state_in(state).begin(current, first, last, waiting);
+    let next = out.state;
+    put_state(state, next);
+    let answer = out.answer;
+    number_of(answer)
+}
+
+#[no_mangle]
+pub extern "C" fn keeper_read(state: &mut [u32], cell: u32, current: &[u64], value: &mut u64) -> u32
+    ensures { λ r. ⌜ result r (now (value .exit)) (now (state .exit)) [] (now (current .entry)) [] [] [] ≡ over valueOf (read cell) (now (state .entry)) [] (now (current .entry)) [] [] [] ⌝ }
+{
+    let held = is_state(state);
+    if held {} else {
+        *value = 0;
+        return 1;
+    }
+    let out = state_in(state).read(cell, current);
+    let next = out.state;
+    put_state(state, next);
+    let answer = out.answer;
+    *value = value_of(answer);
+    number_of(answer)
+}
+
+#[no_mangle]
+pub extern "C" fn keeper_write(
+    state: &mut [u32],
+    cell: u32,
+    new: u64,
+    current: &mut [u64],
+    first: &mut [u32],
+    last: &mut [u32],
+    waiting: &mut [u8],
+) -> u32
+    ensures { λ r. ⌜ result r 0 (now (state .exit)) [] (now (current .exit)) (now (first .exit)) (now (last .exit)) (now (waiting .exit)) ≡ over noValue (write cell new) (now (state .entry)) [] (now (current .entry)) (now (first .entry)) (now (last .entry)) (now (waiting .entry)) ⌝ }
+{
+    let held = is_state(state);
+    if held {} else {
+        return 1;
+    }
+    let out = state_in(state).write(cell, new, current, first, last, waiting);
+    let next = out.state;
+    put_state(state, next);
+    let answer = out.answer;
+    number_of(answer)
+}
+
+#[no_mangle]
+pub extern "C" fn keeper_commit(state: &mut [u32], waiting: &mut [u8], value: &mut u64) -> u32
+    ensures { λ r. ⌜ result r (now (value .exit)) (now (state .exit)) [] [] [] [] (now (waiting .exit)) ≡ over valueOf commit (now (state .entry)) [] [] [] [] (now (waiting .entry)) ⌝ }
+{
+    let held = is_state(state);
+    if held {} else {
+        *value = 0;
+        return 1;
+    }
+    let out = state_in(state).commit(waiting);
+    let next = out.state;
+    put_state(state, next);
+    let answer = out.answer;
+    *value = value_of(answer);
+    number_of(answer)
+}
+
+#[no_mangle]
+pub extern "C" fn keeper_abort(
+    state: &mut [u32],
+    current: &mut [u64],
+    first: &mut [u32],
+    last: &mut [u32],
+    waiting: &mut [u8],
+) -> u32
+    ensures { λ r. ⌜ result r 0 (now (state .exit)) [] (now (current .exit)) (now (first .exit)) (now (last .exit)) (now (waiting .exit)) ≡ over noValue abort (now (state .entry)) [] (now (current .entry)) (now (first .entry)) (now (last .entry)) (now (waiting .entry)) ⌝ }
+{
+    let held = is_state(state);
+    if held {} else {
+        return 1;
+    }
+    let out = state_in(state).abort(current, first, last, waiting);
+    let next = out.state;
+    put_state(state, next);
+    let answer = out.answer;
+    number_of(answer)
+}
