@@ -1,4 +1,4 @@
-use Rattle.replay.proofs.Turns.{is-nothing, is-update, is-commit, is-abort}
+use Rattle.journal.proofs.Meanings.{is-nothing, is-update, is-commit, is-abort}
 use mathlib.Core.Path.{refl, sym, ap, _∙_}
 use Rattle.boundary.proofs.RowLaws.{read-other, read-as}
 use native.Mathlib.Omega.{arith}

@@ -1,5 +1,5 @@
 use Rattle.boundary.proofs.RowLaws.{written-none, written-as}
-use Rattle.replay.proofs.Turns.{is-nothing, is-some}
+use Rattle.journal.proofs.Meanings.{is-nothing, is-some}
 use Rattle.scope.specs.Bytes.{pick}
 use mathlib.Core.Path.{refl, sym, ap, _∙_}
 use borrow.Author.Needs.{needs}
