@@ -42,14 +42,25 @@ late (x ∷ xs) ys n h = go (x .0) h (late xs ys (n .1))
     go true g rest = absurd (omega (arith, n .0))
     go false g rest = rest g
 
--- a first test that refuses with 1 did not hold
-pub fit-true : (t : Bool) (number rest : ℕ) → number ≡ pick (not t) 1 rest → number ≡ 0 → t ≡ true
-fit-true true number rest e z = refl
-fit-true false number rest e z = absurd (omega arith)
+-- leaving at a test that holds, and passing one that doesn't
 
-pub entered-is : (t r : Bool) (p : code.Phase) (x number : ℕ) → x ≡ pick r 10 0 → number ≡ pick (not t) 1 x → r ≡ isRecovering (phaseOf p)
-    → number ≡ pick (not t) 1 (pick (isRecovering (phaseOf p)) 10 0)
-entered-is t r p x number d e f = cc
+pub unfit-stop : (t : Bool) (rest : ℕ) → t ≡ false → 1 ≡ pick (not t) 1 rest
+unfit-stop t rest e = simp e
+
+pub fit-pass : (t : Bool) (x rest : ℕ) → t ≡ true → x ≡ rest → x ≡ pick (not t) 1 rest
+fit-pass t x rest e q = simp e q
+
+pub stop : (t : Bool) (x rest : ℕ) → t ≡ true → x ≡ pick t x rest
+stop t x rest e = simp e
+
+pub pass : (t : Bool) (x y rest : ℕ) → t ≡ false → y ≡ rest → y ≡ pick t x rest
+pass t x y rest e q = simp e q
+
+pub not-true : (t : Bool) → t ≡ true → not t ≡ false
+not-true t e = simp e
+
+pub not-not : (t : Bool) → t ≡ false → not t ≡ true
+not-not t e = simp e
 
 -- rows that abort judges
 
@@ -61,16 +72,6 @@ module _ (n : Numbers) (p : code.Phase) (waiting : List ℕ) (b : Bool) (e : b �
   pub in-run : (y : Bool) → b ≡ true → y ≡ updatesFrom (entryIn waiting 0 (n .slots) (n .cells)) (n .l - n .o) (n .l) → not y ≡ notUpdatesIn n p waiting
   unfolding notUpdatesIn
   in-run y z q = simp (← e, z, q)
-
--- a cell that is not refused with 4
-pub cell-inside : (t rec : Bool) (cells cell number r₁ r₂ : ℕ) → r₂ ≡ pick (leb cells cell) 4 0 → r₁ ≡ pick rec 10 r₂ → number ≡ pick (not t) 1 r₁ → number ≡ 0 → cell < cells
-cell-inside true false cells cell number r₁ r₂ e₂ e₁ e z = go (leb cells cell) refl (sym e₂ ∙ sym e₁ ∙ sym e ∙ z)
-  where
-    go : (b : Bool) → leb cells cell ≡ b → _≡_ {A = ℕ} (pick b 4 0) 0 → cell < cells
-    go true q y = absurd (omega arith)
-    go false q y = leb-false cells cell q
-cell-inside true true cells cell number r₁ r₂ e₂ e₁ e z = absurd (omega arith)
-cell-inside false rec cells cell number r₁ r₂ e₂ e₁ e z = absurd (omega arith)
 
 module _ (n : Numbers) (p : code.Phase) (s t rec : Bool) (ss : s ≡ sound (stateOf n p)) (rr : rec ≡ isRecovering (phaseOf p)) where
   -- calls that ask all their tests at once

@@ -1,5 +1,5 @@
-// The number that each call refuses with, 0 where it is done: the papers' table, each call's tests in their order. A function here
-// changes nothing and is total: the calls ask it first.
+// The number that each call refuses with, 0 where it is done: the papers' table, each call's tests in their order, one after the other,
+// so that a call leaves at the first that holds. A function here changes nothing and is total: the calls ask it first.
 ghost use mathlib.Core.Path.{_≡_};
 ghost use mathlib.Core.Bool.{not};
 ghost use mathlib.Core.List.{[]};
@@ -25,13 +25,6 @@ use state::refuse;
 use workspace::all_updates;
 use workspace::any_first;
 
-// 1, then 10.
-fn entered(fit: bool, phase: Phase) -> u32
-    ensures { λ r. ⌜ r ≡ pick (not fit) 1 (pick (isRecovering (phaseOf phase)) 10 0) ⌝ }
-{
-    refuse(!fit, 1, refuse(is_recovering(phase), 10, 0))
-}
-
 pub fn recovery_step(numbers: Numbers, phase: Phase, medium: &[u8], current: &[u64]) -> u32
     ensures { λ r. ⌜ r ≡ refusal RecoveryStep (lentTo numbers phase (now (medium .entry)) (now (current .entry)) [] [] []) ⌝ }
 {
@@ -40,23 +33,35 @@ pub fn recovery_step(numbers: Numbers, phase: Phase, medium: &[u8], current: &[u
         numbers.fits_cells(current.len()),
     );
     let fit = both(numbers.sound(phase), lent);
-    refuse(!fit, 1, refuse(!is_recovering(phase), 10, 0))
+    if fit {} else {
+        return 1;
+    }
+    let recovering = is_recovering(phase);
+    if recovering {
+        return 0;
+    }
+    10
 }
 
 pub fn read(numbers: Numbers, phase: Phase, cell: u32, current: &[u64]) -> u32
     ensures { λ r. ⌜ r ≡ refusal (Read cell) (lentTo numbers phase [] (now (current .entry)) [] [] []) ⌝ }
 {
     let fit = both(numbers.sound(phase), numbers.fits_cells(current.len()));
-    let past = numbers.cells <= cell;
-    refuse(
-        !fit,
-        1,
-        refuse(
-            is_recovering(phase),
-            10,
-            refuse(is_idle(phase), 3, refuse(past, 4, 0)),
-        ),
-    )
+    if fit {} else {
+        return 1;
+    }
+    let recovering = is_recovering(phase);
+    if recovering {
+        return 10;
+    }
+    let idle = is_idle(phase);
+    if idle {
+        return 3;
+    }
+    if numbers.cells <= cell {
+        return 4;
+    }
+    0
 }
 
 pub fn write(
@@ -72,28 +77,47 @@ pub fn write(
 {
     let lent = numbers.fits_desk(current.len(), first.len(), last.len(), waiting.len());
     let fit = both(numbers.sound(phase), lent);
-    let past = numbers.cells <= cell;
-    let room = refuse(numbers.full(phase), 5, refuse(numbers.used_up(phase), 6, 0));
-    refuse(
-        !fit,
-        1,
-        refuse(
-            is_recovering(phase),
-            10,
-            refuse(is_idle(phase), 3, refuse(past, 4, room)),
-        ),
-    )
+    if fit {} else {
+        return 1;
+    }
+    let recovering = is_recovering(phase);
+    if recovering {
+        return 10;
+    }
+    let idle = is_idle(phase);
+    if idle {
+        return 3;
+    }
+    if numbers.cells <= cell {
+        return 4;
+    }
+    let full = numbers.full(phase);
+    if full {
+        return 5;
+    }
+    let spent = numbers.used_up(phase);
+    if spent {
+        return 6;
+    }
+    0
 }
 
 pub fn commit(numbers: Numbers, phase: Phase, waiting: &[u8]) -> u32
     ensures { λ r. ⌜ r ≡ refusal Commit (lentTo numbers phase [] [] [] [] (now (waiting .entry))) ⌝ }
 {
     let fit = both(numbers.sound(phase), numbers.fits_rows(waiting.len()));
-    refuse(
-        !fit,
-        1,
-        refuse(is_recovering(phase), 10, refuse(is_idle(phase), 3, 0)),
-    )
+    if fit {} else {
+        return 1;
+    }
+    let recovering = is_recovering(phase);
+    if recovering {
+        return 10;
+    }
+    let idle = is_idle(phase);
+    if idle {
+        return 3;
+    }
+    0
 }
 
 // 7: in run a waiting row of o+1 to l isn't that update.
@@ -120,9 +144,12 @@ pub fn abort(
 {
     let lent = numbers.fits_desk(current.len(), first.len(), last.len(), waiting.len());
     let fit = both(numbers.sound(phase), lent);
-    let no = entered(fit, phase);
-    if no != 0 {
-        return no;
+    if fit {} else {
+        return 1;
+    }
+    let recovering = is_recovering(phase);
+    if recovering {
+        return 10;
     }
     refuse(not_updates(numbers, phase, waiting), 7, 0)
 }
@@ -137,11 +164,28 @@ pub fn begin(
 ) -> u32
     ensures { λ r. ⌜ r ≡ refusal Begin (lentTo numbers phase [] (now (current .entry)) (now (first .entry)) (now (last .entry)) (now (waiting .entry))) ⌝ }
 {
-    let no = abort(numbers, phase, current, first, last, waiting);
-    if no != 0 {
-        return no;
+    let lent = numbers.fits_desk(current.len(), first.len(), last.len(), waiting.len());
+    let fit = both(numbers.sound(phase), lent);
+    if fit {} else {
+        return 1;
     }
-    refuse(numbers.full(phase), 5, refuse(numbers.used_up(phase), 6, 0))
+    let recovering = is_recovering(phase);
+    if recovering {
+        return 10;
+    }
+    let broken = not_updates(numbers, phase, waiting);
+    if broken {
+        return 7;
+    }
+    let full = numbers.full(phase);
+    if full {
+        return 5;
+    }
+    let spent = numbers.used_up(phase);
+    if spent {
+        return 6;
+    }
+    0
 }
 
 pub fn force(numbers: Numbers, phase: Phase, medium: &[u8], waiting: &[u8]) -> u32
@@ -152,9 +196,12 @@ pub fn force(numbers: Numbers, phase: Phase, medium: &[u8], waiting: &[u8]) -> u
         numbers.fits_rows(waiting.len()),
     );
     let fit = both(numbers.sound(phase), lent);
-    let no = entered(fit, phase);
-    if no != 0 {
-        return no;
+    if fit {} else {
+        return 1;
+    }
+    let recovering = is_recovering(phase);
+    if recovering {
+        return 10;
     }
     if numbers.f >= numbers.l {
         return 0;
@@ -186,17 +233,15 @@ pub fn write_back(
         both(numbers.fits_cells(current.len()), values),
     );
     let fit = both(numbers.sound(phase), lent);
-    let no = refuse(
-        !fit,
-        1,
-        refuse(
-            is_recovering(phase),
-            10,
-            refuse(numbers.cells <= cell, 4, 0),
-        ),
-    );
-    if no != 0 {
-        return no;
+    if fit {} else {
+        return 1;
+    }
+    let recovering = is_recovering(phase);
+    if recovering {
+        return 10;
+    }
+    if numbers.cells <= cell {
+        return 4;
     }
     let at = index(cell);
     let ahead = both(0 < first[at], numbers.f < last[at]);
@@ -238,9 +283,15 @@ pub fn cut(numbers: Numbers, phase: Phase, p: u32, medium: &[u8], first: &[u32])
     let fit = both(numbers.sound(phase), lent);
     // p below h, above f or above o
     let out = either(p < numbers.h, either(numbers.f < p, numbers.o < p));
-    let no = refuse(!fit, 1, refuse(is_recovering(phase), 10, refuse(out, 9, 0)));
-    if no != 0 {
-        return no;
+    if fit {} else {
+        return 1;
+    }
+    let recovering = is_recovering(phase);
+    if recovering {
+        return 10;
+    }
+    if out {
+        return 9;
     }
     let row = cut_row(numbers, p, medium);
     if row != 0 {
@@ -258,9 +309,15 @@ pub fn look(numbers: Numbers, phase: Phase, n: u32, medium: &[u8], waiting: &[u8
     );
     let fit = both(numbers.sound(phase), lent);
     let out = either(n <= numbers.h, numbers.l < n);
-    refuse(
-        !fit,
-        1,
-        refuse(is_recovering(phase), 10, refuse(out, 11, 0)),
-    )
+    if fit {} else {
+        return 1;
+    }
+    let recovering = is_recovering(phase);
+    if recovering {
+        return 10;
+    }
+    if out {
+        return 11;
+    }
+    0
 }

@@ -1,9 +1,9 @@
 -- `refusal::abort` meets its contract. The table cut after its first two tests.
 use borrow.Author.Needs.{needs}
-use mathlib.Core.Path.{refl}
+use mathlib.Core.Path.{refl, sym, _∙_}
 use native.Mathlib.Omega.{arith}
 use Rattle.refusal.proofs.Lengths.{is-sound, is-lent, rows-fit, desk-fits}
-use Rattle.refusal.proofs.Tables.{fit-true, abort-early, abort-late}
+use Rattle.refusal.proofs.Tables.{abort-early, abort-late, unfit-stop, fit-pass, stop, pass}
 use Rattle.refusal.proofs.abort.Statement.{statement}
 use Rattle.refusal.proofs.abort.Tie as tie
 
@@ -16,24 +16,23 @@ sound-requires c κs = search needs
 both-requires : tie.Need-both-requires
 both-requires c κs = search needs
 
-entered-requires : tie.Need-entered-requires
-entered-requires c κs = search needs
-
 returns : tie.Need-returns
-returns c = abort-early _ _ _ _ _ (c .before .before .before .sound .ensures) refl _ _ _ _ _ (c .before .before .before .before .fits-desk .ensures) (c .before .before .both .ensures) _ (c .before .entered .ensures) (c .if1 .taken)
+returns c = abort-early _ _ _ _ _ (c .before .before .sound .ensures) refl _ _ _ _ _ (c .before .before .before .fits-desk .ensures) (c .before .both .ensures) 1 (unfit-stop _ _ (c .if1 .left)) (λ z. omega arith)
+
+is-recovering-requires : tie.Need-is-recovering-requires
+is-recovering-requires c κs = search needs
+
+returns-2 : tie.Need-returns-2
+returns-2 c = abort-early _ _ _ _ _ (c .before .before .before .before .sound .ensures) refl _ _ _ _ _ (c .before .before .before .before .before .fits-desk .ensures) (c .before .before .before .both .ensures) 10 (fit-pass _ 10 _ (c .before .before .if1 .taken) (stop _ 10 0 (sym (c .before .is-recovering .ensures) ∙ (c .if2 .taken)))) (λ z. omega arith)
 
 not-updates-requires : tie.Need-not-updates-requires
-not-updates-requires c κs =
-    let fit = fit-true _ _ _ (c .before .entered .ensures) (c .if1 .left) in
-    let s = is-sound (c .before .before .before .before .before .before .before .before .before .args .numbers) (c .before .before .before .before .before .before .before .before .before .args .phase) _ _ _ (c .before .before .before .sound .ensures) (c .before .before .both .ensures) fit in
-    let d = desk-fits (c .before .before .before .before .before .before .before .before .before .args .numbers .cells) (c .before .before .before .before .before .before .before .before .before .args .numbers .slots) (c .before .before .before .before .before .before .before .before .before .args .current .now) (c .before .before .before .before .before .before .before .before .before .args .first .now) (c .before .before .before .before .before .before .before .before .before .args .last .now) (c .before .before .before .before .before .before .before .before .before .args .waiting .now) _ (c .before .before .before .before .fits-desk .ensures) (is-lent _ _ _ _ _ (c .before .before .before .sound .ensures) (c .before .before .both .ensures) fit) in
-    rows-fit _ _ _ 0 1 s (omega arith) (omega arith)
+not-updates-requires c κs = let s = is-sound (c .before .before .before .before .before .before .before .before .before .before .args .numbers) (c .before .before .before .before .before .before .before .before .before .before .args .phase) _ _ _ (c .before .before .before .before .sound .ensures) (c .before .before .before .both .ensures) (c .before .before .if1 .taken) in let d = desk-fits (c .before .before .before .before .before .before .before .before .before .before .args .numbers .cells) (c .before .before .before .before .before .before .before .before .before .before .args .numbers .slots) (c .before .before .before .before .before .before .before .before .before .before .args .current .now) (c .before .before .before .before .before .before .before .before .before .before .args .first .now) (c .before .before .before .before .before .before .before .before .before .before .args .last .now) (c .before .before .before .before .before .before .before .before .before .before .args .waiting .now) _ (c .before .before .before .before .before .fits-desk .ensures) (is-lent _ _ _ _ _ (c .before .before .before .before .sound .ensures) (c .before .before .before .both .ensures) (c .before .before .if1 .taken)) in rows-fit _ _ _ 0 1 s (omega arith) (omega arith)
 
 refuse-requires : tie.Need-refuse-requires
 refuse-requires c κs = search needs
 
-returns-2 : tie.Need-returns-2
-returns-2 c = abort-late _ _ _ _ _ (c .before .before .before .before .before .sound .ensures) refl _ _ _ _ _ (c .before .before .before .before .before .before .fits-desk .ensures) (c .before .before .before .before .both .ensures) _ _ _ (c .before .before .before .entered .ensures) (c .before .before .if1 .left) (c .before .not-updates .ensures) (c .refuse .ensures)
+returns-3 : tie.Need-returns-3
+returns-3 c = abort-late _ _ _ _ _ (c .before .before .before .before .before .before .sound .ensures) refl _ _ _ _ _ (c .before .before .before .before .before .before .before .fits-desk .ensures) (c .before .before .before .before .before .both .ensures) 0 _ _ (fit-pass _ 0 _ (c .before .before .before .before .if1 .taken) (pass _ 10 0 0 (sym (c .before .before .before .is-recovering .ensures) ∙ (c .before .before .if2 .left)) refl)) refl (c .before .not-updates .ensures) (c .refuse .ensures)
 
 pub abort-spec : {M : Type 1} → statement M
 abort-spec =
@@ -42,8 +41,9 @@ abort-spec =
     fits-desk-requires
     sound-requires
     both-requires
-    entered-requires
     returns
+    is-recovering-requires
+    returns-2
     not-updates-requires
     refuse-requires
-    returns-2)
+    returns-3)

@@ -1,6 +1,7 @@
 -- `refusal::commit` meets its contract. All its tests, by congruence.
 use borrow.Author.Needs.{needs}
-use Rattle.refusal.proofs.Tables.{commit-is}
+use mathlib.Core.Path.{refl}
+use Rattle.refusal.proofs.Tables.{commit-is, unfit-stop, fit-pass, stop, pass}
 use Rattle.refusal.proofs.commit.Statement.{statement}
 use Rattle.refusal.proofs.commit.Tie as tie
 
@@ -13,23 +14,23 @@ fits-rows-requires c κs = search needs
 both-requires : tie.Need-both-requires
 both-requires c κs = search needs
 
+returns : tie.Need-returns
+returns c = commit-is _ _ _ _ _ (c .before .before .before .sound .ensures) refl _ _ _ 1 _ _ (c .before .before .fits-rows .ensures) (c .before .both .ensures) refl refl refl (unfit-stop _ _ (c .if1 .left))
+
 is-recovering-requires : tie.Need-is-recovering-requires
 is-recovering-requires c κs = search needs
+
+returns-2 : tie.Need-returns-2
+returns-2 c = commit-is _ _ _ _ _ (c .before .before .before .before .before .sound .ensures) (c .before .is-recovering .ensures) _ _ _ 10 10 _ (c .before .before .before .before .fits-rows .ensures) (c .before .before .before .both .ensures) refl refl (stop _ 10 _ (c .if2 .taken)) (fit-pass _ 10 10 (c .before .before .if1 .taken) refl)
 
 is-idle-requires : tie.Need-is-idle-requires
 is-idle-requires c κs = search needs
 
-refuse-requires : tie.Need-refuse-requires
-refuse-requires c κs = search needs
+returns-3 : tie.Need-returns-3
+returns-3 c = commit-is _ _ _ _ _ (c .before .before .before .before .before .before .before .sound .ensures) (c .before .before .before .is-recovering .ensures) _ _ _ 3 3 3 (c .before .before .before .before .before .before .fits-rows .ensures) (c .before .before .before .before .before .both .ensures) (c .before .is-idle .ensures) (stop _ 3 _ (c .if3 .taken)) (pass _ 10 3 3 (c .before .before .if2 .left) refl) (fit-pass _ 3 3 (c .before .before .before .before .if1 .taken) refl)
 
-refuse-requires-2 : tie.Need-refuse-requires-2
-refuse-requires-2 c κs = search needs
-
-refuse-requires-3 : tie.Need-refuse-requires-3
-refuse-requires-3 c κs = search needs
-
-returns : tie.Need-returns
-returns c = commit-is _ _ _ _ _ (c .before .before .before .before .before .before .before .sound .ensures) (c .before .before .before .before .is-recovering .ensures) _ _ _ _ _ _ (c .before .before .before .before .before .before .fits-rows .ensures) (c .before .before .before .before .before .both .ensures) (c .before .before .before .is-idle .ensures) (c .before .before .refuse .ensures) (c .before .refuse2 .ensures) (c .refuse3 .ensures)
+returns-4 : tie.Need-returns-4
+returns-4 c = commit-is _ _ _ _ _ (c .before .before .before .before .before .before .before .sound .ensures) (c .before .before .before .is-recovering .ensures) _ _ _ 0 0 0 (c .before .before .before .before .before .before .fits-rows .ensures) (c .before .before .before .before .before .both .ensures) (c .before .is-idle .ensures) (pass _ 3 0 0 (c .if3 .left) refl) (pass _ 10 0 0 (c .before .before .if2 .left) refl) (fit-pass _ 0 0 (c .before .before .before .before .if1 .taken) refl)
 
 pub commit-spec : {M : Type 1} → statement M
 commit-spec =
@@ -38,9 +39,9 @@ commit-spec =
     sound-requires
     fits-rows-requires
     both-requires
+    returns
     is-recovering-requires
+    returns-2
     is-idle-requires
-    refuse-requires
-    refuse-requires-2
-    refuse-requires-3
-    returns)
+    returns-3
+    returns-4)

@@ -2,8 +2,8 @@
 use borrow.Author.Needs.{needs}
 use mathlib.Core.Path.{ap}
 use native.Mathlib.Omega.{arith}
-use Rattle.scope.specs.Row.{isEntry, isUpdate}
 use Rattle.journal.proofs.Meanings.{is-nothing, is-some, is-update, is-end}
+use Rattle.scope.specs.Row.{isEntry, isUpdate}
 use Rattle.refusal.proofs.Tables.{moved-same, moved-none, moved-end, moved-update, entry-zero}
 use Rattle.refusal.proofs.cut_row.Statement.{statement}
 use Rattle.refusal.proofs.cut_row.Tie as tie

@@ -1,6 +1,7 @@
 -- `refusal::look` meets its contract. All its tests, by congruence.
 use borrow.Author.Needs.{needs}
-use Rattle.refusal.proofs.Tables.{look-is}
+use mathlib.Core.Path.{refl}
+use Rattle.refusal.proofs.Tables.{look-is, unfit-stop, fit-pass, stop, pass}
 use Rattle.refusal.proofs.look.Statement.{statement}
 use Rattle.refusal.proofs.look.Tie as tie
 
@@ -22,20 +23,20 @@ both-requires-2 c κs = search needs
 either-requires : tie.Need-either-requires
 either-requires c κs = search needs
 
+returns : tie.Need-returns
+returns c = look-is _ _ _ _ _ (c .before .before .before .before .before .sound .ensures) refl _ _ _ _ _ _ _ 1 _ _ (c .before .before .before .before .before .before .before .before .fits-medium .ensures) (c .before .before .before .before .before .before .before .fits-rows .ensures) (c .before .before .before .before .before .before .both .ensures) (c .before .before .before .before .both2 .ensures) (c .before .either .ensures) refl refl (unfit-stop _ _ (c .if1 .left))
+
 is-recovering-requires : tie.Need-is-recovering-requires
 is-recovering-requires c κs = search needs
 
-refuse-requires : tie.Need-refuse-requires
-refuse-requires c κs = search needs
+returns-2 : tie.Need-returns-2
+returns-2 c = look-is _ _ _ _ _ (c .before .before .before .before .before .before .before .sound .ensures) (c .before .is-recovering .ensures) _ _ _ _ _ _ _ 10 10 _ (c .before .before .before .before .before .before .before .before .before .before .fits-medium .ensures) (c .before .before .before .before .before .before .before .before .before .fits-rows .ensures) (c .before .before .before .before .before .before .before .before .both .ensures) (c .before .before .before .before .before .before .both2 .ensures) (c .before .before .before .either .ensures) refl (stop _ 10 _ (c .if2 .taken)) (fit-pass _ 10 10 (c .before .before .if1 .taken) refl)
 
-refuse-requires-2 : tie.Need-refuse-requires-2
-refuse-requires-2 c κs = search needs
+returns-3 : tie.Need-returns-3
+returns-3 c = look-is _ _ _ _ _ (c .before .before .before .before .before .before .before .before .sound .ensures) (c .before .before .is-recovering .ensures) _ _ _ _ _ _ _ 11 11 11 (c .before .before .before .before .before .before .before .before .before .before .before .fits-medium .ensures) (c .before .before .before .before .before .before .before .before .before .before .fits-rows .ensures) (c .before .before .before .before .before .before .before .before .before .both .ensures) (c .before .before .before .before .before .before .before .both2 .ensures) (c .before .before .before .before .either .ensures) (stop _ 11 _ (c .if3 .taken)) (pass _ 10 11 11 (c .before .if2 .left) refl) (fit-pass _ 11 11 (c .before .before .before .if1 .taken) refl)
 
-refuse-requires-3 : tie.Need-refuse-requires-3
-refuse-requires-3 c κs = search needs
-
-returns : tie.Need-returns
-returns c = look-is _ _ _ _ _ (c .before .before .before .before .before .before .before .before .sound .ensures) (c .before .before .before .is-recovering .ensures) _ _ _ _ _ _ _ _ _ _ (c .before .before .before .before .before .before .before .before .before .before .before .fits-medium .ensures) (c .before .before .before .before .before .before .before .before .before .before .fits-rows .ensures) (c .before .before .before .before .before .before .before .before .before .both .ensures) (c .before .before .before .before .before .before .before .both2 .ensures) (c .before .before .before .before .either .ensures) (c .before .before .refuse .ensures) (c .before .refuse2 .ensures) (c .refuse3 .ensures)
+returns-4 : tie.Need-returns-4
+returns-4 c = look-is _ _ _ _ _ (c .before .before .before .before .before .before .before .before .sound .ensures) (c .before .before .is-recovering .ensures) _ _ _ _ _ _ _ 0 0 0 (c .before .before .before .before .before .before .before .before .before .before .before .fits-medium .ensures) (c .before .before .before .before .before .before .before .before .before .before .fits-rows .ensures) (c .before .before .before .before .before .before .before .before .before .both .ensures) (c .before .before .before .before .before .before .before .both2 .ensures) (c .before .before .before .before .either .ensures) (pass _ 11 0 0 (c .if3 .left) refl) (pass _ 10 0 0 (c .before .if2 .left) refl) (fit-pass _ 0 0 (c .before .before .before .if1 .taken) refl)
 
 pub look-spec : {M : Type 1} → statement M
 look-spec =
@@ -47,8 +48,8 @@ look-spec =
     sound-requires
     both-requires-2
     either-requires
+    returns
     is-recovering-requires
-    refuse-requires
-    refuse-requires-2
-    refuse-requires-3
-    returns)
+    returns-2
+    returns-3
+    returns-4)

@@ -1,6 +1,9 @@
 -- `refusal::read` meets its contract. All its tests, by congruence.
 use borrow.Author.Needs.{needs}
-use Rattle.refusal.proofs.Tables.{read-is}
+use borrow.Author.Tests.{le-leb, lt-leb}
+use mathlib.Core.Path.{refl}
+use native.Mathlib.Omega.{arith}
+use Rattle.refusal.proofs.Tables.{read-is, unfit-stop, fit-pass, stop, pass}
 use Rattle.refusal.proofs.read.Statement.{statement}
 use Rattle.refusal.proofs.read.Tie as tie
 
@@ -13,26 +16,26 @@ fits-cells-requires c κs = search needs
 both-requires : tie.Need-both-requires
 both-requires c κs = search needs
 
+returns : tie.Need-returns
+returns c = read-is _ _ _ _ _ (c .before .before .before .sound .ensures) refl _ _ _ _ 1 _ _ _ (c .before .before .fits-cells .ensures) (c .before .both .ensures) refl refl refl refl (unfit-stop _ _ (c .if1 .left))
+
 is-recovering-requires : tie.Need-is-recovering-requires
 is-recovering-requires c κs = search needs
+
+returns-2 : tie.Need-returns-2
+returns-2 c = read-is _ _ _ _ _ (c .before .before .before .before .before .sound .ensures) (c .before .is-recovering .ensures) _ _ _ _ 10 10 _ _ (c .before .before .before .before .fits-cells .ensures) (c .before .before .before .both .ensures) refl refl refl (stop _ 10 _ (c .if2 .taken)) (fit-pass _ 10 10 (c .before .before .if1 .taken) refl)
 
 is-idle-requires : tie.Need-is-idle-requires
 is-idle-requires c κs = search needs
 
-refuse-requires : tie.Need-refuse-requires
-refuse-requires c κs = search needs
+returns-3 : tie.Need-returns-3
+returns-3 c = read-is _ _ _ _ _ (c .before .before .before .before .before .before .before .sound .ensures) (c .before .before .before .is-recovering .ensures) _ _ _ _ 3 3 3 _ (c .before .before .before .before .before .before .fits-cells .ensures) (c .before .before .before .before .before .both .ensures) (c .before .is-idle .ensures) refl (stop _ 3 _ (c .if3 .taken)) (pass _ 10 3 3 (c .before .before .if2 .left) refl) (fit-pass _ 3 3 (c .before .before .before .before .if1 .taken) refl)
 
-refuse-requires-2 : tie.Need-refuse-requires-2
-refuse-requires-2 c κs = search needs
+returns-4 : tie.Need-returns-4
+returns-4 c = read-is _ _ _ _ _ (c .before .before .before .before .before .before .before .before .before .sound .ensures) (c .before .before .before .before .before .is-recovering .ensures) _ _ _ _ 4 4 4 4 (c .before .before .before .before .before .before .before .before .fits-cells .ensures) (c .before .before .before .before .before .before .before .both .ensures) (c .before .before .before .is-idle .ensures) (stop _ 4 _ (le-leb (c .before .before .before .before .before .before .before .before .before .before .before .args .numbers .cells) (c .before .before .before .before .before .before .before .before .before .before .before .args .cell) (omega arith))) (pass _ 3 4 4 (c .before .before .if3 .left) refl) (pass _ 10 4 4 (c .before .before .before .before .if2 .left) refl) (fit-pass _ 4 4 (c .before .before .before .before .before .before .if1 .taken) refl)
 
-refuse-requires-3 : tie.Need-refuse-requires-3
-refuse-requires-3 c κs = search needs
-
-refuse-requires-4 : tie.Need-refuse-requires-4
-refuse-requires-4 c κs = search needs
-
-returns : tie.Need-returns
-returns c = read-is _ _ _ _ _ (c .before .before .before .before .before .before .before .before .before .sound .ensures) (c .before .before .before .before .before .is-recovering .ensures) _ _ _ _ _ _ _ _ (c .before .before .before .before .before .before .before .before .fits-cells .ensures) (c .before .before .before .before .before .before .before .both .ensures) (c .before .before .before .before .is-idle .ensures) (c .before .before .before .refuse .ensures) (c .before .before .refuse2 .ensures) (c .before .refuse3 .ensures) (c .refuse4 .ensures)
+returns-5 : tie.Need-returns-5
+returns-5 c = read-is _ _ _ _ _ (c .before .before .before .before .before .before .before .before .before .sound .ensures) (c .before .before .before .before .before .is-recovering .ensures) _ _ _ _ 0 0 0 0 (c .before .before .before .before .before .before .before .before .fits-cells .ensures) (c .before .before .before .before .before .before .before .both .ensures) (c .before .before .before .is-idle .ensures) (pass _ 4 0 0 (lt-leb (c .before .before .before .before .before .before .before .before .before .before .before .args .numbers .cells) (c .before .before .before .before .before .before .before .before .before .before .before .args .cell) (omega arith)) refl) (pass _ 3 0 0 (c .before .before .if3 .left) refl) (pass _ 10 0 0 (c .before .before .before .before .if2 .left) refl) (fit-pass _ 0 0 (c .before .before .before .before .before .before .if1 .taken) refl)
 
 pub read-spec : {M : Type 1} → statement M
 read-spec =
@@ -41,10 +44,10 @@ read-spec =
     sound-requires
     fits-cells-requires
     both-requires
+    returns
     is-recovering-requires
+    returns-2
     is-idle-requires
-    refuse-requires
-    refuse-requires-2
-    refuse-requires-3
-    refuse-requires-4
-    returns)
+    returns-3
+    returns-4
+    returns-5)

@@ -1,6 +1,7 @@
 -- `refusal::recovery_step` meets its contract. All its tests, by congruence.
 use borrow.Author.Needs.{needs}
-use Rattle.refusal.proofs.Tables.{step-is}
+use mathlib.Core.Path.{refl}
+use Rattle.refusal.proofs.Tables.{step-is, not-true, not-not, unfit-stop, fit-pass, stop, pass}
 use Rattle.refusal.proofs.recovery_step.Statement.{statement}
 use Rattle.refusal.proofs.recovery_step.Tie as tie
 
@@ -19,17 +20,17 @@ sound-requires c κs = search needs
 both-requires-2 : tie.Need-both-requires-2
 both-requires-2 c κs = search needs
 
+returns : tie.Need-returns
+returns c = step-is _ _ _ _ _ (c .before .before .sound .ensures) refl _ _ _ _ _ 1 _ (c .before .before .before .before .before .fits-medium .ensures) (c .before .before .before .before .fits-cells .ensures) (c .before .before .before .both .ensures) (c .before .both2 .ensures) refl (unfit-stop _ _ (c .if1 .left))
+
 is-recovering-requires : tie.Need-is-recovering-requires
 is-recovering-requires c κs = search needs
 
-refuse-requires : tie.Need-refuse-requires
-refuse-requires c κs = search needs
+returns-2 : tie.Need-returns-2
+returns-2 c = step-is _ _ _ _ _ (c .before .before .before .before .sound .ensures) (c .before .is-recovering .ensures) _ _ _ _ _ 0 0 (c .before .before .before .before .before .before .before .fits-medium .ensures) (c .before .before .before .before .before .before .fits-cells .ensures) (c .before .before .before .before .before .both .ensures) (c .before .before .before .both2 .ensures) (pass _ 10 0 0 (not-true _ (c .if2 .taken)) refl) (fit-pass _ 0 0 (c .before .before .if1 .taken) refl)
 
-refuse-requires-2 : tie.Need-refuse-requires-2
-refuse-requires-2 c κs = search needs
-
-returns : tie.Need-returns
-returns c = step-is _ _ _ _ _ (c .before .before .before .before .sound .ensures) (c .before .before .is-recovering .ensures) _ _ _ _ _ _ _ (c .before .before .before .before .before .before .before .fits-medium .ensures) (c .before .before .before .before .before .before .fits-cells .ensures) (c .before .before .before .before .before .both .ensures) (c .before .before .before .both2 .ensures) (c .before .refuse .ensures) (c .refuse2 .ensures)
+returns-3 : tie.Need-returns-3
+returns-3 c = step-is _ _ _ _ _ (c .before .before .before .before .sound .ensures) (c .before .is-recovering .ensures) _ _ _ _ _ 10 10 (c .before .before .before .before .before .before .before .fits-medium .ensures) (c .before .before .before .before .before .before .fits-cells .ensures) (c .before .before .before .before .before .both .ensures) (c .before .before .before .both2 .ensures) (stop _ 10 0 (not-not _ (c .if2 .left))) (fit-pass _ 10 10 (c .before .before .if1 .taken) refl)
 
 pub recovery-step-spec : {M : Type 1} → statement M
 recovery-step-spec =
@@ -40,7 +41,7 @@ recovery-step-spec =
     both-requires
     sound-requires
     both-requires-2
+    returns
     is-recovering-requires
-    refuse-requires
-    refuse-requires-2
-    returns)
+    returns-2
+    returns-3)
