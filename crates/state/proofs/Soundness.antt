@@ -69,9 +69,9 @@ module _ (n : Numbers) (p : code.Phase) where
         unfolding sound stateOf maxNo
         sound-phase b j e = e ∙ rw (← q, r, le-leb (n .h) (n .f) h, le-leb (n .f) (n .l) i, le-leb (n .l) 4294967295 m, le-leb (n .l - n .h) (n .slots) j)
 
-  pub full-is : (c x k : ℕ) → c ≡ n .slots → x ≡ n .l - n .h → k ≡ openCount (phaseOf p) → ltb c (x + k + 1) ≡ full (stateOf n p)
+  pub full-is : (c k m : ℕ) → c ≡ n .slots → k ≡ openCount (phaseOf p) → m ≡ n .l - n .h + k + 1 → ltb c m ≡ full (stateOf n p)
   unfolding full stateOf
-  full-is c x k a b d = rw (a, b, d)
+  full-is c k m a d q = rw (a, q, d)
 
   pub used-up-is : (x k : ℕ) → x ≡ n .l → k ≡ openCount (phaseOf p) → ltb 4294967295 (x + k + 1) ≡ usedUp (stateOf n p)
   unfolding usedUp stateOf maxNo
