@@ -49,5 +49,12 @@ pub fn listing(medium: &mut [u8], text: &mut [u8]) -> usize
     let mut first = no_numbers();
     let mut last = no_numbers();
     let waiting = no_rows();
-    listing_within(medium, &mut current[0..cells], &mut first[0..cells], &mut last[0..cells], &waiting[0..rows], text)
+    listing_within(
+        medium,
+        &mut current[0..cells],
+        &mut first[0..cells],
+        &mut last[0..cells],
+        &waiting[0..rows],
+        text,
+    )
 }

@@ -4,8 +4,11 @@ use medium::head::format;
 
 // Part, major and minor of a release, as a cell's value.
 const A: u64 = 40017 + 4294967296 * 1 + 281474976710656 * 9;
+
 const B: u64 = 40052 + 4294967296 * 1 + 281474976710656 * 10;
+
 const RELEASE_ALONE: u64 = 281474976710656 * 1;
+
 const GREATEST: u64 = 18446744073709551615;
 
 // The listing of a medium, under its name.
@@ -173,16 +176,40 @@ fn small_media() {
     let mut waiting = [0u8; 128];
     format(&mut medium, 2, 4);
     show_small(b"formatted", &mut medium);
-    case_five(&mut medium, &mut current, &mut first, &mut last, &mut waiting);
+    case_five(
+        &mut medium,
+        &mut current,
+        &mut first,
+        &mut last,
+        &mut waiting,
+    );
     show_small(b"case 5", &mut medium);
     show_small(b"case 5 again", &mut medium);
-    case_five(&mut medium, &mut current, &mut first, &mut last, &mut waiting);
+    case_five(
+        &mut medium,
+        &mut current,
+        &mut first,
+        &mut last,
+        &mut waiting,
+    );
     damage(&mut medium, 100, 4);
     show_small(b"kind 4", &mut medium);
-    case_five(&mut medium, &mut current, &mut first, &mut last, &mut waiting);
+    case_five(
+        &mut medium,
+        &mut current,
+        &mut first,
+        &mut last,
+        &mut waiting,
+    );
     damage(&mut medium, 96, 0);
     show_small(b"number 0", &mut medium);
-    ends(&mut medium, &mut current, &mut first, &mut last, &mut waiting);
+    ends(
+        &mut medium,
+        &mut current,
+        &mut first,
+        &mut last,
+        &mut waiting,
+    );
     show_small(b"ends", &mut medium);
 }
 
@@ -206,9 +233,25 @@ fn large_media() {
     let mut first = [0u32; 1024];
     let mut last = [0u32; 1024];
     let mut waiting = [0u8; 32768];
-    largest(false, B, &mut medium, &mut current, &mut first, &mut last, &mut waiting);
+    largest(
+        false,
+        B,
+        &mut medium,
+        &mut current,
+        &mut first,
+        &mut last,
+        &mut waiting,
+    );
     show_large(&mut medium);
-    largest(true, GREATEST, &mut medium, &mut current, &mut first, &mut last, &mut waiting);
+    largest(
+        true,
+        GREATEST,
+        &mut medium,
+        &mut current,
+        &mut first,
+        &mut last,
+        &mut waiting,
+    );
     measure(&mut medium);
 }
 
@@ -236,7 +279,15 @@ fn damaged(name: &[u8], at: usize, byte: u8, image: &mut [u8], length: usize) {
 }
 
 // A medium with other numbers of cells and rows: each a byte and 256 times another.
-fn sized(name: &[u8], cells: u8, cells_high: u8, slots: u8, slots_high: u8, image: &mut [u8], length: usize) {
+fn sized(
+    name: &[u8],
+    cells: u8,
+    cells_high: u8,
+    slots: u8,
+    slots_high: u8,
+    image: &mut [u8],
+    length: usize,
+) {
     format_small(image);
     poke(image, 0, cells);
     poke(image, 1, cells_high);

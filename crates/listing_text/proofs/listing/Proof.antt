@@ -40,9 +40,10 @@ same-length-2 c = search needs
 
 -- src/lib.rt:44:9
 returns : tie.Need-returns
-returns c = 
-    (wrote-same (c .before .before .put-line .ensures) (listing-unfit (c .before .before .before .before .before .before .before .before .before .before .args .medium .now) _ (c .before .before .before .before .before .before .head-ok .ensures) (c .before .before .before .before .before .if1 .left)),
-    omega (arith, length-line refusedKey 1, c .before .before .put-line .ensures .end))
+returns c = (
+  wrote-same (c .before .before .put-line .ensures) (listing-unfit (c .before .before .before .before .before .before .before .before .before .before .args .medium .now) _ (c .before .before .before .before .before .before .head-ok .ensures) (c .before .before .before .before .before .if1 .left)),
+  omega (arith, length-line refusedKey 1, c .before .before .put-line .ensures .end),
+)
 
 -- src/lib.rt:46:23
 get4-requires : tie.Need-get4-requires
@@ -130,9 +131,10 @@ part-listing-within-end c = let f = head-fits (c .before .before .before .before
 
 -- src/lib.rt:52:5
 listing-within-requires : tie.Need-listing-within-requires
-listing-within-requires c κs = 
-    (desk (c .before .before .before .before .before .before .before .before .before .before .before .before .before .before .before .before .before .before .before .before .before .before .args .medium .now) (c .before .before .before .before .before .before .before .before .before .before .no-values .result) (c .before .before .before .before .before .before .before .before .before .no-numbers .result) (c .before .before .before .before .before .before .before .before .no-numbers2 .result) (c .before .before .before .before .before .before .before .no-rows .result) (c .before .before .before .before .before .before .before .before .before .before .before .before .before .before .index .result - 0) (32 * c .before .before .before .before .before .before .before .before .before .before .before .index2 .result - 0) _ (c .before .before .before .before .before .before .before .before .before .before .before .before .before .before .before .before .before .before .head-ok .ensures) (c .before .before .before .before .before .before .before .before .before .before .before .before .before .before .before .before .before .if1 .taken) (omega (arith, c .before .before .before .before .before .before .before .before .before .before .before .before .before .before .index .ensures .0, c .before .before .before .before .before .before .before .before .before .before .before .before .before .before .before .get4 .ensures)) (omega (arith, c .before .before .before .before .before .before .before .before .before .before .before .index2 .ensures .0, c .before .before .before .before .before .before .before .before .before .before .before .before .get42 .ensures)) (c .before .before .before .before .before .before .before .before .before .before .no-values .ensures .1) (c .before .before .before .before .before .before .before .before .before .no-numbers .ensures .1) (c .before .before .before .before .before .before .before .before .no-numbers2 .ensures .1) (c .before .before .before .before .before .before .before .no-rows .ensures .1),
-    c .before .before .before .before .before .before .before .before .before .before .before .before .before .before .before .before .before .before .before .before .before .before .pre)
+listing-within-requires c κs = (
+  desk (c .before .before .before .before .before .before .before .before .before .before .before .before .before .before .before .before .before .before .before .before .before .before .args .medium .now) (c .before .before .before .before .before .before .before .before .before .before .no-values .result) (c .before .before .before .before .before .before .before .before .before .no-numbers .result) (c .before .before .before .before .before .before .before .before .no-numbers2 .result) (c .before .before .before .before .before .before .before .no-rows .result) (c .before .before .before .before .before .before .before .before .before .before .before .before .before .before .index .result - 0) (32 * c .before .before .before .before .before .before .before .before .before .before .before .index2 .result - 0) _ (c .before .before .before .before .before .before .before .before .before .before .before .before .before .before .before .before .before .before .head-ok .ensures) (c .before .before .before .before .before .before .before .before .before .before .before .before .before .before .before .before .before .if1 .taken) (omega (arith, c .before .before .before .before .before .before .before .before .before .before .before .before .before .before .index .ensures .0, c .before .before .before .before .before .before .before .before .before .before .before .before .before .before .before .get4 .ensures)) (omega (arith, c .before .before .before .before .before .before .before .before .before .before .before .index2 .ensures .0, c .before .before .before .before .before .before .before .before .before .before .before .before .get42 .ensures)) (c .before .before .before .before .before .before .before .before .before .before .no-values .ensures .1) (c .before .before .before .before .before .before .before .before .before .no-numbers .ensures .1) (c .before .before .before .before .before .before .before .before .no-numbers2 .ensures .1) (c .before .before .before .before .before .before .before .no-rows .ensures .1),
+  c .before .before .before .before .before .before .before .before .before .before .before .before .before .before .before .before .before .before .before .before .before .before .pre,
+)
 
 -- src/lib.rt:37:1
 same-length-3 : tie.Need-same-length-3

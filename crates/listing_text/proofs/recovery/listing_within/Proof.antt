@@ -67,10 +67,11 @@ same-length-5 c = search needs
 
 -- src/recovery.rt:68:9
 returns : tie.Need-returns
-returns c = 
-    let a = c .before .before .before .before .before .before .before .before .before .before .before .before .before .before .before .before .before .before .before .before .before .before .before .before .before .before .before .before .before .args in
-    (wrote-same (c .before .before .put-line .ensures) (listing-refused (a .medium .now) (a .current .now) (a .first .now) (a .last .now) (a .waiting .now) (c .before .before .before .before .before .before .before .before .before .before .before .before .before .before .before .before .before .before .before .before .before .before .before .before .before .before .before .before .before .pre .0) _ (c .before .before .before .before .before .before .before .before .before .before .before .before .before .before .recovery-start .result .state) _ _ _ (c .before .before .before .before .before .before .before .before .before .before .before .before .before .before .recovery-start .ensures) _ (ap answered (c .before .before .before .before .before .before .answer .given .1))),
-    omega (arith, length-line refusedKey (c .before .before .before .before .before .before .answer .given .0 .0), c .before .before .put-line .ensures .end, c .before .before .put-line .kept, c .before .before .before .before .before .before .before .before .before .before .before .before .before .before .before .before .before .before .before .before .before .before .before .before .before .before .before .before .before .pre .1))
+returns c =
+    let a = c .before .before .before .before .before .before .before .before .before .before .before .before .before .before .before .before .before .before .before .before .before .before .before .before .before .before .before .before .before .args in (
+      wrote-same (c .before .before .put-line .ensures) (listing-refused (a .medium .now) (a .current .now) (a .first .now) (a .last .now) (a .waiting .now) (c .before .before .before .before .before .before .before .before .before .before .before .before .before .before .before .before .before .before .before .before .before .before .before .before .before .before .before .before .before .pre .0) _ (c .before .before .before .before .before .before .before .before .before .before .before .before .before .before .recovery-start .result .state) _ _ _ (c .before .before .before .before .before .before .before .before .before .before .before .before .before .before .recovery-start .ensures) _ (ap answered (c .before .before .before .before .before .before .answer .given .1))),
+      omega (arith, length-line refusedKey (c .before .before .before .before .before .before .answer .given .0 .0), c .before .before .put-line .ensures .end, c .before .before .put-line .kept, c .before .before .before .before .before .before .before .before .before .before .before .before .before .before .before .before .before .before .before .before .before .before .before .before .before .before .before .before .before .pre .1),
+    )
 
 enum-told : tie.Need-enum-told
 enum-told c = search needs
@@ -85,7 +86,7 @@ settle-requires c κs = search needs
 
 -- src/recovery.rt:72:5
 put-table-requires : tie.Need-put-table-requires
-put-table-requires c κs = 
+put-table-requires c κs =
     let f = head-fits (c .before .before .before .before .before .before .before .before .before .before .before .before .before .before .before .before .before .before .before .before .before .before .before .before .before .before .before .before .before .before .before .args .medium .now) true (sym (c .before .before .before .before .before .before .before .before .before .before .before .before .before .before .before .before .before .before .before .before .before .before .before .before .before .before .before .before .before .before .before .pre .0 .ok)) refl in
     let q : 50 + 62 * c .before .before .before .before .before .before .before .before .before .before .before .before .before .before .before .before .before .before .before .before .before .before .before .get4 .result ≤ length (c .before .before .before .before .before .before .before .before .before .before .before .before .before .before .before .before .before .before .before .before .before .before .before .before .before .before .before .before .before .before .before .args .text .now) = omega (arith, c .before .before .before .before .before .before .before .before .before .before .before .before .before .before .before .before .before .before .before .before .before .before .before .get4 .ensures, c .before .before .before .before .before .before .before .before .before .before .before .before .before .before .before .before .before .before .before .before .before .before .before .before .before .before .before .before .before .before .before .pre .1) in
     (omega (arith, c .before .before .before .before .before .before .before .before .before .before .before .before .before .before .before .before .before .before .before .before .before .before .before .get4 .ensures, c .before .before .before .before .before .before .before .before .before .before .before .before .before .before .before .before .before .before .before .before .before .get42 .ensures, c .before .before .before .before .settle .kept), q)
@@ -112,11 +113,12 @@ same-length-10 c = search needs
 
 -- src/recovery.rt:50:1
 returns-2 : tie.Need-returns-2
-returns-2 c = 
+returns-2 c =
     let a = c .before .before .before .before .before .before .before .before .before .before .before .before .before .before .before .before .before .before .before .before .before .before .before .before .before .before .before .before .before .before .before .before .before .before .args in
-    let f = head-fits (c .before .before .before .before .before .before .before .before .before .before .before .before .before .before .before .before .before .before .before .before .before .before .before .before .before .before .before .before .before .before .before .before .before .before .args .medium .now) true (sym (c .before .before .before .before .before .before .before .before .before .before .before .before .before .before .before .before .before .before .before .before .before .before .before .before .before .before .before .before .before .before .before .before .before .before .pre .0 .ok)) refl in
-    (wrote-same (c .before .before .put-table .ensures) (listing-done (a .medium .now) (a .current .now) (a .first .now) (a .last .now) (a .waiting .now) (c .before .before .before .before .before .before .before .before .before .before .before .before .before .before .before .before .before .before .before .before .before .before .before .before .before .before .before .before .before .before .before .before .before .before .pre .0) _ (c .before .before .before .before .before .before .before .before .before .before .before .before .before .before .before .before .before .before .before .recovery-start .result .state) _ _ _ (c .before .before .before .before .before .before .before .before .before .before .before .before .before .before .before .before .before .before .before .recovery-start .ensures) _ _ (c .before .before .before .before .before .before .before .before .before .before .before .before .before .before .before .before .before .before .before .before .before .before .before .before .before .before .get4 .ensures) (c .before .before .before .before .before .before .before .before .before .before .before .before .before .before .before .before .before .before .before .before .before .before .before .before .get42 .ensures) (c .before .before .before .before .before .before .before .settle .result) _ (c .before .before .before .before .before .before .before .settle .ensures) _ (ap answered (c .before .before .before .before .before .before .before .before .before .before .before .enum-told .given .1))),
-    omega (arith, c .before .before .put-table .ensures .end, c .before .before .put-table .kept, c .before .before .before .before .before .before .before .before .before .before .before .before .before .before .before .before .before .before .before .before .before .before .before .before .before .before .before .before .before .before .before .before .before .before .pre .1, c .before .before .before .before .before .before .before .before .before .before .before .before .before .before .before .before .before .before .before .before .before .before .before .before .before .before .get4 .ensures, length-table-text (c .before .before .before .before .before .before .before .before .before .before .before .before .before .before .before .before .before .before .before .before .before .before .before .before .before .before .get4 .result) (c .before .before .before .before .before .before .before .before .before .before .before .before .before .before .before .before .before .before .before .before .before .before .before .before .get42 .result) (c .before .before .before .before .before .before .before .settle .result .numbers .h) (tableOf (c .before .before .before .before .before .before .before .before .before .before .before .before .before .before .before .before .before .before .before .before .before .before .before .before .before .before .get4 .result) (c .before .before .before .before .before .before .before .before .before .before .before .before .before .before .before .before .before .before .before .before .before .before .before .before .get42 .result) (c .before .before .before .before .before .before .before .settle .last .1 .1 .0)), length-table (c .before .before .before .before .before .before .before .before .before .before .before .before .before .before .before .before .before .before .before .before .before .before .before .before .before .before .get4 .result) (c .before .before .before .before .before .before .before .before .before .before .before .before .before .before .before .before .before .before .before .before .before .before .before .before .get42 .result) (c .before .before .before .before .before .before .before .settle .last .1 .1 .0)))
+    let f = head-fits (c .before .before .before .before .before .before .before .before .before .before .before .before .before .before .before .before .before .before .before .before .before .before .before .before .before .before .before .before .before .before .before .before .before .before .args .medium .now) true (sym (c .before .before .before .before .before .before .before .before .before .before .before .before .before .before .before .before .before .before .before .before .before .before .before .before .before .before .before .before .before .before .before .before .before .before .pre .0 .ok)) refl in (
+      wrote-same (c .before .before .put-table .ensures) (listing-done (a .medium .now) (a .current .now) (a .first .now) (a .last .now) (a .waiting .now) (c .before .before .before .before .before .before .before .before .before .before .before .before .before .before .before .before .before .before .before .before .before .before .before .before .before .before .before .before .before .before .before .before .before .before .pre .0) _ (c .before .before .before .before .before .before .before .before .before .before .before .before .before .before .before .before .before .before .before .recovery-start .result .state) _ _ _ (c .before .before .before .before .before .before .before .before .before .before .before .before .before .before .before .before .before .before .before .recovery-start .ensures) _ _ (c .before .before .before .before .before .before .before .before .before .before .before .before .before .before .before .before .before .before .before .before .before .before .before .before .before .before .get4 .ensures) (c .before .before .before .before .before .before .before .before .before .before .before .before .before .before .before .before .before .before .before .before .before .before .before .before .get42 .ensures) (c .before .before .before .before .before .before .before .settle .result) _ (c .before .before .before .before .before .before .before .settle .ensures) _ (ap answered (c .before .before .before .before .before .before .before .before .before .before .before .enum-told .given .1))),
+      omega (arith, c .before .before .put-table .ensures .end, c .before .before .put-table .kept, c .before .before .before .before .before .before .before .before .before .before .before .before .before .before .before .before .before .before .before .before .before .before .before .before .before .before .before .before .before .before .before .before .before .before .pre .1, c .before .before .before .before .before .before .before .before .before .before .before .before .before .before .before .before .before .before .before .before .before .before .before .before .before .before .get4 .ensures, length-table-text (c .before .before .before .before .before .before .before .before .before .before .before .before .before .before .before .before .before .before .before .before .before .before .before .before .before .before .get4 .result) (c .before .before .before .before .before .before .before .before .before .before .before .before .before .before .before .before .before .before .before .before .before .before .before .before .get42 .result) (c .before .before .before .before .before .before .before .settle .result .numbers .h) (tableOf (c .before .before .before .before .before .before .before .before .before .before .before .before .before .before .before .before .before .before .before .before .before .before .before .before .before .before .get4 .result) (c .before .before .before .before .before .before .before .before .before .before .before .before .before .before .before .before .before .before .before .before .before .before .before .before .get42 .result) (c .before .before .before .before .before .before .before .settle .last .1 .1 .0)), length-table (c .before .before .before .before .before .before .before .before .before .before .before .before .before .before .before .before .before .before .before .before .before .before .before .before .before .before .get4 .result) (c .before .before .before .before .before .before .before .before .before .before .before .before .before .before .before .before .before .before .before .before .before .before .before .before .get42 .result) (c .before .before .before .before .before .before .before .settle .last .1 .1 .0)),
+    )
 
 pub listing-within-spec : {M : Type 1} → statement M
 listing-within-spec =

@@ -42,7 +42,7 @@ loop-less c = omega arith
 
 -- src/text.rt:26:5
 loop-again : tie.Need-loop-again Inv-loop μ-loop
-loop-again c = 
+loop-again c =
     let d = c .before .before in
     (omega arith, (simp length-set (omega arith), bytes-again _ _ _ _ _ (d .loop .inv .1 .1) (omega arith) (omega arith) (omega arith)))
 

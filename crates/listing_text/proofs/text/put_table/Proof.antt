@@ -45,7 +45,7 @@ same-length c = search needs
 
 -- src/text.rt:117:1
 returns : tie.Need-returns
-returns c = 
+returns c =
     let a = c .before .before .before .before .before .before .before .before .before .before .before .before .before .before .before .before .before .before .before .before .before .args in
     let t = tableOf (a .cells) (a .slots) (a .medium .now) in
     wrote-table (a .cells) (a .slots) (a .h) t (c .before .before .before .before .before .before .before .before .before .before .before .before .before .before .before .before .put-line .ensures) (c .before .before .before .before .before .before .before .before .before .before .before .put-line2 .ensures) (c .before .before .before .before .before .before .put-line3 .ensures) (c .before .before .put-cells .ensures) (omega (arith, length-table (a .cells) (a .slots) (a .medium .now)))
