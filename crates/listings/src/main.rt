@@ -227,12 +227,20 @@ fn measure(medium: &mut [u8; 40992]) {
 }
 
 // The largest medium: its listing, and the length of the longest that there is but for one cell.
+fn large_medium() -> [u8; 40992] {
+    [0; 40992]
+}
+
+fn large_rows() -> [u8; 32768] {
+    [0; 32768]
+}
+
 fn large_media() {
-    let mut medium = [0u8; 40992];
+    let mut medium = large_medium();
     let mut current = [0u64; 1024];
     let mut first = [0u32; 1024];
     let mut last = [0u32; 1024];
-    let mut waiting = [0u8; 32768];
+    let mut waiting = large_rows();
     largest(
         false,
         B,
@@ -324,8 +332,12 @@ fn longest_lengths(image: &mut [u8; 40993]) {
     show_part(b"overlong", image, 40993);
 }
 
+fn image() -> [u8; 40993] {
+    [0; 40993]
+}
+
 fn main() {
-    let mut image = [0u8; 40993];
+    let mut image = image();
     lengths(&mut image);
     sizes(&mut image);
     longest_lengths(&mut image);
