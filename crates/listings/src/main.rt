@@ -4,8 +4,11 @@ use medium::head::format;
 
 // Part, major and minor of a release, as a cell's value.
 const A: u64 = 40017 + 4294967296 * 1 + 281474976710656 * 9;
+
 const B: u64 = 40052 + 4294967296 * 1 + 281474976710656 * 10;
+
 const RELEASE_ALONE: u64 = 281474976710656 * 1;
+
 const GREATEST: u64 = 18446744073709551615;
 
 // The listing of a medium, under its name.
@@ -173,16 +176,40 @@ fn small_media() {
     let mut waiting = [0u8; 128];
     format(&mut medium, 2, 4);
     show_small(b"formatted", &mut medium);
-    case_five(&mut medium, &mut current, &mut first, &mut last, &mut waiting);
+    case_five(
+        &mut medium,
+        &mut current,
+        &mut first,
+        &mut last,
+        &mut waiting,
+    );
     show_small(b"case 5", &mut medium);
     show_small(b"case 5 again", &mut medium);
-    case_five(&mut medium, &mut current, &mut first, &mut last, &mut waiting);
+    case_five(
+        &mut medium,
+        &mut current,
+        &mut first,
+        &mut last,
+        &mut waiting,
+    );
     damage(&mut medium, 100, 4);
     show_small(b"kind 4", &mut medium);
-    case_five(&mut medium, &mut current, &mut first, &mut last, &mut waiting);
+    case_five(
+        &mut medium,
+        &mut current,
+        &mut first,
+        &mut last,
+        &mut waiting,
+    );
     damage(&mut medium, 96, 0);
     show_small(b"number 0", &mut medium);
-    ends(&mut medium, &mut current, &mut first, &mut last, &mut waiting);
+    ends(
+        &mut medium,
+        &mut current,
+        &mut first,
+        &mut last,
+        &mut waiting,
+    );
     show_small(b"ends", &mut medium);
 }
 
@@ -200,15 +227,39 @@ fn measure(medium: &mut [u8; 40992]) {
 }
 
 // The largest medium: its listing, and the length of the longest that there is but for one cell.
+fn large_medium() -> [u8; 40992] {
+    [0; 40992]
+}
+
+fn large_rows() -> [u8; 32768] {
+    [0; 32768]
+}
+
 fn large_media() {
-    let mut medium = [0u8; 40992];
+    let mut medium = large_medium();
     let mut current = [0u64; 1024];
     let mut first = [0u32; 1024];
     let mut last = [0u32; 1024];
-    let mut waiting = [0u8; 32768];
-    largest(false, B, &mut medium, &mut current, &mut first, &mut last, &mut waiting);
+    let mut waiting = large_rows();
+    largest(
+        false,
+        B,
+        &mut medium,
+        &mut current,
+        &mut first,
+        &mut last,
+        &mut waiting,
+    );
     show_large(&mut medium);
-    largest(true, GREATEST, &mut medium, &mut current, &mut first, &mut last, &mut waiting);
+    largest(
+        true,
+        GREATEST,
+        &mut medium,
+        &mut current,
+        &mut first,
+        &mut last,
+        &mut waiting,
+    );
     measure(&mut medium);
 }
 
@@ -236,7 +287,15 @@ fn damaged(name: &[u8], at: usize, byte: u8, image: &mut [u8], length: usize) {
 }
 
 // A medium with other numbers of cells and rows: each a byte and 256 times another.
-fn sized(name: &[u8], cells: u8, cells_high: u8, slots: u8, slots_high: u8, image: &mut [u8], length: usize) {
+fn sized(
+    name: &[u8],
+    cells: u8,
+    cells_high: u8,
+    slots: u8,
+    slots_high: u8,
+    image: &mut [u8],
+    length: usize,
+) {
     format_small(image);
     poke(image, 0, cells);
     poke(image, 1, cells_high);
@@ -273,8 +332,12 @@ fn longest_lengths(image: &mut [u8; 40993]) {
     show_part(b"overlong", image, 40993);
 }
 
+fn image() -> [u8; 40993] {
+    [0; 40993]
+}
+
 fn main() {
-    let mut image = [0u8; 40993];
+    let mut image = image();
     lengths(&mut image);
     sizes(&mut image);
     longest_lengths(&mut image);

@@ -1,14 +1,10 @@
+-- `listings::filled` ends. Each turn leaves one write fewer, and every length as it was.
 use Prim.Native.Nat.{_-_}
+use lib.ListN.{length}
 use mathlib.Core.Path.{_≡_, refl}
 use native.Mathlib.Omega.{arith}
-use borrow.Author.Needs.{needs}
-use lib.ListN.{length}
 use Rattle.listings.proofs.filled.Statement.{statement}
 use Rattle.listings.proofs.filled.Tie as tie
-use Rattle.listings.proofs.filled.Reads as reads
-use Rattle.listings.proofs.filled.Lts as lts
-use Rattle.keeper.proofs.State.write.Reads as write-reads
-use Rattle.listings.proofs.place.Reads as place-reads
 
 abbrev Inv-loop : tie.InvT-loop
 Inv-loop count each value current₀ first₀ last₀ waiting₀ state₀ i₀ current first last waiting state i =
@@ -17,47 +13,36 @@ Inv-loop count each value current₀ first₀ last₀ waiting₀ state₀ i₀ c
 abbrev μ-loop : tie.MeasureT-loop
 μ-loop count each value current₀ first₀ last₀ waiting₀ state₀ i₀ current first last waiting state i = count - i
 
--- src/main.rt:97:5
 loop-holds : tie.Need-loop-holds Inv-loop μ-loop
 loop-holds c = (refl, (refl, (refl, refl)))
 
--- src/main.rt:98:32
 place-requires : tie.Need-place-requires Inv-loop μ-loop
 place-requires c κs = tt
 
--- src/main.rt:98:13
 write-requires : tie.Need-write-requires Inv-loop μ-loop
 write-requires c κs = tt
 
--- src/main.rt:100:9
 add-i : tie.Need-add-i Inv-loop μ-loop
 add-i c = omega arith
 
--- src/main.rt:97:5
 loop-less : tie.Need-loop-less Inv-loop μ-loop
 loop-less c = omega arith
 
--- src/main.rt:97:5
 loop-again : tie.Need-loop-again Inv-loop μ-loop
 loop-again c = (omega arith, (omega arith, (omega arith, omega arith)))
 
--- src/main.rt:85:1
 same-length : tie.Need-same-length Inv-loop μ-loop
 same-length c = omega arith
 
--- src/main.rt:85:1
 same-length-2 : tie.Need-same-length-2 Inv-loop μ-loop
 same-length-2 c = omega arith
 
--- src/main.rt:85:1
 same-length-3 : tie.Need-same-length-3 Inv-loop μ-loop
 same-length-3 c = omega arith
 
--- src/main.rt:85:1
 same-length-4 : tie.Need-same-length-4 Inv-loop μ-loop
 same-length-4 c = omega arith
 
--- src/main.rt:85:1
 returns : tie.Need-returns Inv-loop μ-loop
 returns c = tt
 

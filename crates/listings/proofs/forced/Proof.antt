@@ -1,12 +1,9 @@
+-- `listings::forced` ends. Each turn leaves one entry fewer to store.
+use lib.ListN.{length}
 use mathlib.Core.Path.{_≡_, refl}
 use native.Mathlib.Omega.{arith}
-use borrow.Author.Needs.{needs}
-use lib.ListN.{length}
 use Rattle.listings.proofs.forced.Statement.{statement}
 use Rattle.listings.proofs.forced.Tie as tie
-use Rattle.listings.proofs.forced.Reads as reads
-use Rattle.listings.proofs.forced.Lts as lts
-use Rattle.keeper.proofs.State.force.Reads as force-reads
 
 abbrev Inv-loop : tie.InvT-loop
 Inv-loop count medium₀ waiting state₀ left₀ medium state left = length medium ≡ length medium₀
@@ -14,31 +11,24 @@ Inv-loop count medium₀ waiting state₀ left₀ medium state left = length med
 abbrev μ-loop : tie.MeasureT-loop
 μ-loop count medium₀ waiting state₀ left₀ medium state left = left
 
--- src/main.rt:71:5
 loop-holds : tie.Need-loop-holds Inv-loop μ-loop
 loop-holds c = refl
 
--- src/main.rt:72:13
 force-requires : tie.Need-force-requires Inv-loop μ-loop
 force-requires c κs = tt
 
--- src/main.rt:74:9
 sub-left : tie.Need-sub-left Inv-loop μ-loop
 sub-left c = omega arith
 
--- src/main.rt:71:5
 loop-less : tie.Need-loop-less Inv-loop μ-loop
 loop-less c = omega arith
 
--- src/main.rt:71:5
 loop-again : tie.Need-loop-again Inv-loop μ-loop
 loop-again c = omega arith
 
--- src/main.rt:68:1
 same-length : tie.Need-same-length Inv-loop μ-loop
 same-length c = omega arith
 
--- src/main.rt:68:1
 returns : tie.Need-returns Inv-loop μ-loop
 returns c = tt
 

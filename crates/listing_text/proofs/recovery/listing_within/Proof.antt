@@ -1,71 +1,53 @@
-use lib.ListN.{length}
+-- `listing_text::recovery::listing_within` meets its contract. Refused, or the table at the end of recovery: the start and the steps are those of the definition.
 use Prim.Native.Nat.{_+_, _*_, _≤_}
-use Rattle.scope.specs.Recovery.{tableOf}
-use Rattle.scope.proofs.TableCells.{length-table}
-use Rattle.listing_text.specs.Text.{refusedKey}
-use Rattle.listing_text.proofs.Writing.{wrote-same, length-line, length-table-text}
-use Rattle.listing_text.proofs.Recovered.{listing-refused, listing-done}
-use Rattle.keeper.specs.Answers.{answered}
-use Rattle.keeper.proofs.Recovering.{head-fits}
+use borrow.Author.Needs.{needs}
+use lib.ListN.{length}
 use mathlib.Core.Bool.{true}
 use mathlib.Core.Path.{refl, sym, ap}
 use native.Mathlib.Omega.{arith}
-use borrow.Author.Needs.{needs}
+use Rattle.keeper.proofs.Recovering.{head-fits}
+use Rattle.keeper.specs.Answers.{answered}
+use Rattle.scope.proofs.TableCells.{length-table}
+use Rattle.scope.specs.Recovery.{tableOf}
+use Rattle.listing_text.proofs.Recovered.{listing-refused, listing-done}
+use Rattle.listing_text.proofs.Writing.{wrote-same, length-line, length-table-text}
+use Rattle.listing_text.specs.Text.{refusedKey}
 use Rattle.listing_text.proofs.recovery.listing_within.Statement.{statement}
 use Rattle.listing_text.proofs.recovery.listing_within.Tie as tie
-use Rattle.listing_text.proofs.recovery.listing_within.Reads as reads
-use Rattle.listing_text.proofs.recovery.listing_within.Lts as lts
-use Rattle.keeper.proofs.State.recovery_start.Reads as recovery-start-reads
-use Rattle.listing_text.proofs.recovery.settle.Reads as settle-reads
-use Rattle.listing_text.proofs.text.put_line.Reads as put-line-reads
-use Rattle.listing_text.proofs.text.put_table.Reads as put-table-reads
-use Rattle.number.proofs.get4.Reads as get4-reads
 
--- src/recovery.rt:63:9
 get4-requires : tie.Need-get4-requires
 get4-requires c κs = let f = head-fits (c .before .before .before .before .before .before .before .args .medium .now) true (sym (c .before .before .before .before .before .before .before .pre .0 .ok)) refl in omega arith
 
--- src/recovery.rt:64:9
 get4-requires-2 : tie.Need-get4-requires-2
 get4-requires-2 c κs = let f = head-fits (c .before .before .before .before .before .before .before .before .before .args .medium .now) true (sym (c .before .before .before .before .before .before .before .before .before .pre .0 .ok)) refl in omega arith
 
--- src/recovery.rt:65:9
 recovery-start-requires : tie.Need-recovery-start-requires
 recovery-start-requires c κs = search needs
 
--- src/recovery.rt:67:28
 enum-known-answer : tie.Need-enum-known-answer
 enum-known-answer c = search needs
 
--- src/recovery.rt:68:25
 slice-aggregate-put-line : tie.Need-slice-aggregate-put-line
 slice-aggregate-put-line c = search needs
 
--- src/recovery.rt:68:9
 put-line-requires : tie.Need-put-line-requires
 put-line-requires c κs = search needs
 
--- src/recovery.rt:68:9
 same-length : tie.Need-same-length
 same-length c = search needs
 
--- src/recovery.rt:68:9
 same-length-2 : tie.Need-same-length-2
 same-length-2 c = search needs
 
--- src/recovery.rt:68:9
 same-length-3 : tie.Need-same-length-3
 same-length-3 c = search needs
 
--- src/recovery.rt:68:9
 same-length-4 : tie.Need-same-length-4
 same-length-4 c = search needs
 
--- src/recovery.rt:68:9
 same-length-5 : tie.Need-same-length-5
 same-length-5 c = search needs
 
--- src/recovery.rt:68:9
 returns : tie.Need-returns
 returns c =
     let a = c .before .before .before .before .before .before .before .before .before .before .before .before .before .before .before .before .before .before .before .before .before .before .before .before .before .before .before .before .before .args in (
@@ -76,42 +58,33 @@ returns c =
 enum-told : tie.Need-enum-told
 enum-told c = search needs
 
--- src/recovery.rt:71:22
 add-settle : tie.Need-add-settle
 add-settle c = let f = head-fits (c .before .before .before .before .before .before .before .before .before .before .before .before .before .before .before .before .before .before .before .before .before .before .before .before .args .medium .now) true (sym (c .before .before .before .before .before .before .before .before .before .before .before .before .before .before .before .before .before .before .before .before .before .before .before .before .pre .0 .ok)) refl in omega (arith, c .before .before .before .before .before .before .before .before .before .before .before .before .before .before .before .before .get4 .ensures)
 
--- src/recovery.rt:71:9
 settle-requires : tie.Need-settle-requires
 settle-requires c κs = search needs
 
--- src/recovery.rt:72:5
 put-table-requires : tie.Need-put-table-requires
 put-table-requires c κs =
     let f = head-fits (c .before .before .before .before .before .before .before .before .before .before .before .before .before .before .before .before .before .before .before .before .before .before .before .before .before .before .before .before .before .before .before .args .medium .now) true (sym (c .before .before .before .before .before .before .before .before .before .before .before .before .before .before .before .before .before .before .before .before .before .before .before .before .before .before .before .before .before .before .before .pre .0 .ok)) refl in
     let q : 50 + 62 * c .before .before .before .before .before .before .before .before .before .before .before .before .before .before .before .before .before .before .before .before .before .before .before .get4 .result ≤ length (c .before .before .before .before .before .before .before .before .before .before .before .before .before .before .before .before .before .before .before .before .before .before .before .before .before .before .before .before .before .before .before .args .text .now) = omega (arith, c .before .before .before .before .before .before .before .before .before .before .before .before .before .before .before .before .before .before .before .before .before .before .before .get4 .ensures, c .before .before .before .before .before .before .before .before .before .before .before .before .before .before .before .before .before .before .before .before .before .before .before .before .before .before .before .before .before .before .before .pre .1) in
     (omega (arith, c .before .before .before .before .before .before .before .before .before .before .before .before .before .before .before .before .before .before .before .before .before .before .before .get4 .ensures, c .before .before .before .before .before .before .before .before .before .before .before .before .before .before .before .before .before .before .before .before .before .get42 .ensures, c .before .before .before .before .settle .kept), q)
 
--- src/recovery.rt:50:1
 same-length-6 : tie.Need-same-length-6
 same-length-6 c = search needs
 
--- src/recovery.rt:50:1
 same-length-7 : tie.Need-same-length-7
 same-length-7 c = search needs
 
--- src/recovery.rt:50:1
 same-length-8 : tie.Need-same-length-8
 same-length-8 c = search needs
 
--- src/recovery.rt:50:1
 same-length-9 : tie.Need-same-length-9
 same-length-9 c = search needs
 
--- src/recovery.rt:50:1
 same-length-10 : tie.Need-same-length-10
 same-length-10 c = search needs
 
--- src/recovery.rt:50:1
 returns-2 : tie.Need-returns-2
 returns-2 c =
     let a = c .before .before .before .before .before .before .before .before .before .before .before .before .before .before .before .before .before .before .before .before .before .before .before .before .before .before .before .before .before .before .before .before .before .before .args in

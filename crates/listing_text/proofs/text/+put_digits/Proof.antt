@@ -1,17 +1,17 @@
-use mathlib.Core.List.{_∷_, []}
-use native.Mathlib.Omega.{arith}
-use borrow.Author.Needs.{needs}
-use Rattle.listing_text.proofs.Writing.{wrote-none, wrote-then, wrote-same, digits-none, digits-one, digits-more, length-digits}
+-- `listing_text::text::put_digits` meets its contract. The digits before the last, by the call of itself with one digit fewer, then the last.
 use Prim.Native.Nat.{ℕ, _<_, _-_, _/_}
+use borrow.Author.Needs.{needs}
 use borrow.Fn.Kinds.{In}
 use borrow.Fn.PlainCycle.{Measures, is, falls, and}
+use native.Mathlib.Omega.{arith}
+use Rattle.listing_text.proofs.Writing.{wrote-none, wrote-then, wrote-same, digits-none, digits-one, digits-more, length-digits}
+use Rattle.listing_text.proofs.text.+put_digits.{statement}
+use Rattle.listing_text.proofs.text.+put_digits.Tie.{close}
 use Rattle.listing_text.proofs.text.put_digits.Reads as put-digits
 use Rattle.listing_text.proofs.text.put_digits.Kinds as put-digits-kinds
 use Rattle.listing_text.proofs.text.+put_digits.Lts-put_digits as put-digits-lts
 use Rattle.listing_text.proofs.text.digit.Reads as digit-reads
 use Rattle.listing_text.proofs.text.put_byte.Reads as put-byte-reads
-use Rattle.listing_text.proofs.text.+put_digits.{statement}
-use Rattle.listing_text.proofs.text.+put_digits.Tie.{close}
 
 abbrev μ-put-digits : Measures 1 put-digits-kinds.ps ℕ
 μ-put-digits κs a = a .0
@@ -24,7 +24,6 @@ abbrev put-digits-below : ℕ → In 1 put-digits-kinds.ps
 put-digits-below t =
     and 1 put-digits-kinds.ps (falls 1 put-digits-kinds.ps _<_ μ-put-digits t) put-digits.Pre
 
--- src/text.rt:47:9
 put-digits-returns : (t : ℕ) → put-digits-lts.Need-returns (
   digit-reads.Asked,
   digit-reads.Learnt,
@@ -35,7 +34,6 @@ put-digits-returns : (t : ℕ) → put-digits-lts.Need-returns (
 ) (put-digits-at t) put-digits.Post
 put-digits-returns t c = wrote-same (wrote-none (c .before .before .args .text .now) (c .before .before .args .at)) (digits-none (c .before .before .args .n) (c .before .before .args .left) (omega arith))
 
--- src/text.rt:50:25
 put-digits-digit-requires : (t : ℕ) → put-digits-lts.Need-digit-requires (
   digit-reads.Asked,
   digit-reads.Learnt,
@@ -46,7 +44,6 @@ put-digits-digit-requires : (t : ℕ) → put-digits-lts.Need-digit-requires (
 ) (put-digits-at t) put-digits.Post
 put-digits-digit-requires t c κs = omega arith
 
--- src/text.rt:50:9
 put-digits-put-byte-requires : (t : ℕ) → put-digits-lts.Need-put-byte-requires (
   digit-reads.Asked,
   digit-reads.Learnt,
@@ -57,7 +54,6 @@ put-digits-put-byte-requires : (t : ℕ) → put-digits-lts.Need-put-byte-requir
 ) (put-digits-at t) put-digits.Post
 put-digits-put-byte-requires t c κs = omega arith
 
--- src/text.rt:50:9
 put-digits-same-length : (t : ℕ) → put-digits-lts.Need-same-length (
   digit-reads.Asked,
   digit-reads.Learnt,
@@ -68,7 +64,6 @@ put-digits-same-length : (t : ℕ) → put-digits-lts.Need-same-length (
 ) (put-digits-at t) put-digits.Post
 put-digits-same-length t c = search needs
 
--- src/text.rt:50:9
 put-digits-returns-2 : (t : ℕ) → put-digits-lts.Need-returns-2 (
   digit-reads.Asked,
   digit-reads.Learnt,
@@ -79,7 +74,6 @@ put-digits-returns-2 : (t : ℕ) → put-digits-lts.Need-returns-2 (
 ) (put-digits-at t) put-digits.Post
 put-digits-returns-2 t c = wrote-same (c .before .before .put-byte .ensures) (digits-one (c .before .before .before .before .before .before .before .before .args .n) (c .before .before .before .before .before .before .before .before .args .left) _ (omega arith) (omega arith) (c .before .before .before .before .digit .ensures))
 
--- src/text.rt:52:27
 put-digits-sub-put-digits : (t : ℕ) → put-digits-lts.Need-sub-put-digits (
   digit-reads.Asked,
   digit-reads.Learnt,
@@ -90,7 +84,6 @@ put-digits-sub-put-digits : (t : ℕ) → put-digits-lts.Need-sub-put-digits (
 ) (put-digits-at t) put-digits.Post
 put-digits-sub-put-digits t c = omega arith
 
--- src/text.rt:52:9
 put-digits-put-digits-requires : (t : ℕ) → put-digits-lts.Need-put-digits-requires (
   digit-reads.Asked,
   digit-reads.Learnt,
@@ -101,7 +94,6 @@ put-digits-put-digits-requires : (t : ℕ) → put-digits-lts.Need-put-digits-re
 ) (put-digits-at t) put-digits.Post
 put-digits-put-digits-requires t c κs = (omega arith, omega arith)
 
--- src/text.rt:53:14
 put-digits-digit-requires-2 : (t : ℕ) → put-digits-lts.Need-digit-requires-2 (
   digit-reads.Asked,
   digit-reads.Learnt,
@@ -112,7 +104,6 @@ put-digits-digit-requires-2 : (t : ℕ) → put-digits-lts.Need-digit-requires-2
 ) (put-digits-at t) put-digits.Post
 put-digits-digit-requires-2 t c κs = omega arith
 
--- src/text.rt:53:5
 put-digits-put-byte-requires-2 : (t : ℕ) → put-digits-lts.Need-put-byte-requires-2 (
   digit-reads.Asked,
   digit-reads.Learnt,
@@ -123,7 +114,6 @@ put-digits-put-byte-requires-2 : (t : ℕ) → put-digits-lts.Need-put-byte-requ
 ) (put-digits-at t) put-digits.Post
 put-digits-put-byte-requires-2 t c κs = omega (arith, length-digits (c .before .before .before .before .before .before .before .before .before .args .left - 1) (c .before .before .before .before .before .before .before .before .before .args .n / 10))
 
--- src/text.rt:42:1
 put-digits-same-length-2 : (t : ℕ) → put-digits-lts.Need-same-length-2 (
   digit-reads.Asked,
   digit-reads.Learnt,
@@ -134,7 +124,6 @@ put-digits-same-length-2 : (t : ℕ) → put-digits-lts.Need-same-length-2 (
 ) (put-digits-at t) put-digits.Post
 put-digits-same-length-2 t c = search needs
 
--- src/text.rt:42:1
 put-digits-returns-3 : (t : ℕ) → put-digits-lts.Need-returns-3 (
   digit-reads.Asked,
   digit-reads.Learnt,

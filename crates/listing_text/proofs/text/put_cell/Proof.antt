@@ -1,56 +1,42 @@
-use Rattle.listing_text.specs.Text.{cellKey, partKey}
-use Rattle.listing_text.proofs.Writing.{length-line, cell-empty, cell-full}
+-- `listing_text::text::put_cell` meets its contract. Empty, or three lines, one after the other.
 use Prim.Native.Nat.{_%_}
-use native.Mathlib.Omega.{arith}
 use borrow.Author.Needs.{needs}
+use native.Mathlib.Omega.{arith}
+use Rattle.listing_text.proofs.Writing.{length-line, cell-empty, cell-full}
+use Rattle.listing_text.specs.Text.{cellKey, partKey}
 use Rattle.listing_text.proofs.text.put_cell.Statement.{statement}
 use Rattle.listing_text.proofs.text.put_cell.Tie as tie
-use Rattle.listing_text.proofs.text.put_cell.Reads as reads
-use Rattle.listing_text.proofs.text.put_cell.Lts as lts
-use Rattle.listing_text.proofs.text.put_line.Reads as put-line-reads
-use Rattle.listing_text.proofs.text.put_release.Reads as put-release-reads
 
--- src/text.rt:92:9
 returns : tie.Need-returns
 returns c = cell-empty _ _ _ _ (omega arith)
 
--- src/text.rt:94:25
 slice-aggregate-put-line : tie.Need-slice-aggregate-put-line
 slice-aggregate-put-line c = search needs
 
--- src/text.rt:94:9
 put-line-requires : tie.Need-put-line-requires
 put-line-requires c κs = search needs
 
--- src/text.rt:95:28
 slice-aggregate-put-line-2 : tie.Need-slice-aggregate-put-line-2
 slice-aggregate-put-line-2 c = search needs
 
--- src/text.rt:95:38
 cast-put-line : tie.Need-cast-put-line
 cast-put-line c = search needs
 
--- src/text.rt:95:9
 put-line-requires-2 : tie.Need-put-line-requires-2
 put-line-requires-2 c κs = omega (arith, length-line cellKey (c .before .before .before .before .before .before .before .before .before .args .cell), c .before .before .before .before .put-line .ensures .end)
 
--- src/text.rt:96:17
 cast-major : tie.Need-cast-major
 cast-major c = search needs
 
--- src/text.rt:97:17
 cast-minor : tie.Need-cast-minor
 cast-minor c = search needs
 
--- src/text.rt:98:5
 put-release-requires : tie.Need-put-release-requires
 put-release-requires c κs = omega (arith, length-line cellKey (c .before .before .before .before .before .before .before .before .before .before .before .before .before .args .cell), length-line partKey (c .before .before .before .before .before .before .before .before .before .before .before .before .before .args .value % 4294967296), c .before .before .before .before .before .before .before .before .put-line .ensures .end, c .before .before .before .put-line2 .ensures .end)
 
--- src/text.rt:87:1
 same-length : tie.Need-same-length
 same-length c = search needs
 
--- src/text.rt:87:1
 returns-2 : tie.Need-returns-2
 returns-2 c = cell-full (c .before .before .before .before .before .before .before .before .before .before .before .before .before .before .before .before .args .cell) (c .before .before .before .before .before .before .before .before .before .before .before .before .before .before .before .before .args .value) (omega arith) (c .before .before .before .before .before .before .before .before .before .before .before .put-line .ensures) (c .before .before .before .before .before .before .put-line2 .ensures) (c .before .before .put-release .ensures) (omega arith)
 

@@ -1,49 +1,37 @@
-use Rattle.scope.specs.Recovery.{tableOf}
-use Rattle.scope.proofs.TableCells.{length-table}
-use Rattle.listing_text.specs.Text.{cellsKey, slotsKey, headKey}
-use Rattle.listing_text.proofs.Writing.{length-line, wrote-table}
-use native.Mathlib.Omega.{arith}
+-- `listing_text::text::put_table` meets its contract. Three lines and the cells, one after the other.
 use borrow.Author.Needs.{needs}
+use native.Mathlib.Omega.{arith}
+use Rattle.scope.proofs.TableCells.{length-table}
+use Rattle.scope.specs.Recovery.{tableOf}
+use Rattle.listing_text.proofs.Writing.{length-line, wrote-table}
+use Rattle.listing_text.specs.Text.{cellsKey, slotsKey, headKey}
 use Rattle.listing_text.proofs.text.put_table.Statement.{statement}
 use Rattle.listing_text.proofs.text.put_table.Tie as tie
-use Rattle.listing_text.proofs.text.put_table.Reads as reads
-use Rattle.listing_text.proofs.text.put_table.Lts as lts
-use Rattle.listing_text.proofs.text.put_cells.Reads as put-cells-reads
-use Rattle.listing_text.proofs.text.put_line.Reads as put-line-reads
 
--- src/text.rt:121:27
 slice-aggregate-put-line : tie.Need-slice-aggregate-put-line
 slice-aggregate-put-line c = search needs
 
--- src/text.rt:121:9
 put-line-requires : tie.Need-put-line-requires
 put-line-requires c κs = search needs
 
--- src/text.rt:122:26
 slice-aggregate-put-line-2 : tie.Need-slice-aggregate-put-line-2
 slice-aggregate-put-line-2 c = search needs
 
--- src/text.rt:122:9
 put-line-requires-2 : tie.Need-put-line-requires-2
 put-line-requires-2 c κs = omega (arith, length-line cellsKey (c .before .before .before .before .before .before .before .before .before .args .cells), c .before .before .before .before .put-line .ensures .end)
 
--- src/text.rt:123:26
 slice-aggregate-put-line-3 : tie.Need-slice-aggregate-put-line-3
 slice-aggregate-put-line-3 c = search needs
 
--- src/text.rt:123:9
 put-line-requires-3 : tie.Need-put-line-requires-3
 put-line-requires-3 c κs = omega (arith, length-line cellsKey (c .before .before .before .before .before .before .before .before .before .before .before .before .before .before .args .cells), length-line slotsKey (c .before .before .before .before .before .before .before .before .before .before .before .before .before .before .args .slots), c .before .before .before .before .before .before .before .before .before .put-line .ensures .end, c .before .before .before .before .put-line2 .ensures .end)
 
--- src/text.rt:124:5
 put-cells-requires : tie.Need-put-cells-requires
 put-cells-requires c κs = (omega arith, omega (arith, length-line cellsKey (c .before .before .before .before .before .before .before .before .before .before .before .before .before .before .before .before .before .before .args .cells), length-line slotsKey (c .before .before .before .before .before .before .before .before .before .before .before .before .before .before .before .before .before .before .args .slots), length-line headKey (c .before .before .before .before .before .before .before .before .before .before .before .before .before .before .before .before .before .before .args .h), c .before .before .before .before .before .before .before .before .before .before .before .before .before .put-line .ensures .end, c .before .before .before .before .before .before .before .before .put-line2 .ensures .end, c .before .before .before .put-line3 .ensures .end))
 
--- src/text.rt:117:1
 same-length : tie.Need-same-length
 same-length c = search needs
 
--- src/text.rt:117:1
 returns : tie.Need-returns
 returns c =
     let a = c .before .before .before .before .before .before .before .before .before .before .before .before .before .before .before .before .before .before .before .before .before .args in
