@@ -1,6 +1,6 @@
 // The medium's file: the medium, byte for byte. A store is brought to its own place and synced before the call is answered.
-use crate::say;
 use keeper::State;
+use orders::say;
 use state::Numbers;
 use state::Phase;
 use words::Span;
@@ -74,7 +74,9 @@ pub fn bring(fd: i32, medium: &[u8], at: usize, size: usize) -> bool {
 
 // The file did not take a store: the terminal stops, before it answers.
 pub fn failed(session: Session) -> Told {
-    say::say(b"# the file did not take the store: power is as good as lost, start again on it\nerror=store\n");
+    say::say(
+        b"# the file did not take the store: power is as good as lost, start again on it\nerror=store\n",
+    );
     Told { session, on: false }
 }
 

@@ -1,15 +1,14 @@
 // A terminal over the keeper on a real file. It reads orders, one a line, and answers each; each store is in the file, at its own place and
 // synced, before its call is answered, so that killing the terminal at any moment is a loss of power between two calls, or before the last store.
 pub mod file;
-pub mod order;
-pub mod say;
-pub mod show;
 
 use console::Asked;
 use console::Did;
 use file::Session;
 use file::Told;
-use order::Order;
+use orders::Order;
+use orders::say;
+use orders::show;
 
 // What a call answered.
 fn answer(asked: Asked, did: Did) {
@@ -105,20 +104,20 @@ fn call(
 }
 
 // Orders that are no call of the keeper's with a state.
-fn aside(session: Session, order: Order, medium: &[u8], waiting: &[u8]) -> Told {
+fn aside<'a>(session: Session, order: Order, medium: &'a [u8], waiting: &'a [u8]) -> Told {
     let kind = order.kind;
-    if kind == order::QUIT {
+    if kind == orders::QUIT {
         return Told { session, on: false };
     }
-    if kind == order::HELP {
+    if kind == orders::HELP {
         say::help();
         return Told { session, on: true };
     }
-    if kind == order::LIST {
+    if kind == orders::LIST {
         show::list(medium, session.size);
         return Told { session, on: true };
     }
-    if kind == order::LOOK {
+    if kind == orders::LOOK {
         let state = session.state;
         show::look(state, order.a, medium, waiting, session.size);
     }
@@ -135,11 +134,11 @@ fn on_file(
     last: &mut [u32],
     waiting: &mut [u8],
 ) -> Told {
-    if order.kind == order::FORMAT {
+    if order.kind == orders::FORMAT {
         return file::format(session, order.a, order.b, medium);
     }
-    if order.kind < order::OPEN {
-        let asked = order::asked(order);
+    if order.kind < orders::OPEN {
+        let asked = orders::asked(order);
         return call(session, asked, medium, current, first, last, waiting);
     }
     aside(session, order, medium, waiting)
@@ -154,11 +153,11 @@ fn fits(session: Session, order: Order) -> bool {
     if 0 <= session.fd {
         return true;
     }
-    if order.kind < order::OPEN {
+    if order.kind < orders::OPEN {
         say::no_file();
         return false;
     }
-    if order.kind == order::FORMAT {
+    if order.kind == orders::FORMAT {
         say::no_file();
         return false;
     }
@@ -189,14 +188,22 @@ fn obey(
     if ok {} else {
         return Told { session, on: true };
     }
-    if order.kind == order::OPEN {
+    if order.kind == orders::OPEN {
         let name = order.name;
         let opened = file::open(session, line, name, medium);
         let next = opened.session;
         if opened.on {} else {
             return Told { session, on: true };
         }
-        return call(next, recovery_start(), medium, current, first, last, waiting);
+        return call(
+            next,
+            recovery_start(),
+            medium,
+            current,
+            first,
+            last,
+            waiting,
+        );
     }
     on_file(session, order, medium, current, first, last, waiting)
 }
@@ -214,7 +221,7 @@ fn serve(
     let mut turns: u64 = 18446744073709551615;
     while 0 < turns {
         turns -= 1;
-        let order = order::next(line);
+        let order = orders::next(line);
         let told = obey(session, order, line, medium, current, first, last, waiting);
         session = told.session;
         if told.on {} else {

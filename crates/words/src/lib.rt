@@ -8,7 +8,7 @@ pub struct Span {
     pub to: usize,
 }
 
-pub enum Number {
+pub enum Parsed {
     Is(u64),
     Not,
 }
@@ -105,31 +105,31 @@ fn shifted(n: u64, digit: u8) -> u64 {
 }
 
 // The decimal number, of at most ten digits and below 2^32, that the word is.
-pub fn number(s: &[u8], w: Span) -> Number {
+pub fn number(s: &[u8], w: Span) -> Parsed {
     let to = w.to;
     let mut i = w.from;
     if to <= i {
-        return Number::Not;
+        return Parsed::Not;
     }
     if 10 < to - i {
-        return Number::Not;
+        return Parsed::Not;
     }
     let mut n: u64 = 0;
     while i < to {
         let d = byte(s, i);
         if d < b'0' {
-            return Number::Not;
+            return Parsed::Not;
         }
         if b'9' < d {
-            return Number::Not;
+            return Parsed::Not;
         }
         n = shifted(n, d);
         i += 1;
     }
     if 4294967295 < n {
-        return Number::Not;
+        return Parsed::Not;
     }
-    Number::Is(n)
+    Parsed::Is(n)
 }
 
 // Where the word's first point stands, or its end.
@@ -146,21 +146,21 @@ fn point(s: &[u8], w: Span) -> usize {
 }
 
 // Two numbers below 65,536 as one.
-fn joined(major: u64, minor: u64) -> Number {
+fn joined(major: u64, minor: u64) -> Parsed {
     if 65535 < major {
-        return Number::Not;
+        return Parsed::Not;
     }
     if 65535 < minor {
-        return Number::Not;
+        return Parsed::Not;
     }
-    Number::Is(major + 65536 * minor)
+    Parsed::Is(major + 65536 * minor)
 }
 
 // The release that the word is, major, a point, minor: major + 65,536 * minor.
-pub fn release(s: &[u8], w: Span) -> Number {
+pub fn release(s: &[u8], w: Span) -> Parsed {
     let p = point(s, w);
     if w.to <= p {
-        return Number::Not;
+        return Parsed::Not;
     }
     let before = Span {
         from: w.from,
@@ -171,22 +171,22 @@ pub fn release(s: &[u8], w: Span) -> Number {
         to: w.to,
     };
     let major = number(s, before);
-    let Number::Is(a) = major else {
-        return Number::Not;
+    let Parsed::Is(a) = major else {
+        return Parsed::Not;
     };
     let minor = number(s, after);
-    let Number::Is(b) = minor else {
-        return Number::Not;
+    let Parsed::Is(b) = minor else {
+        return Parsed::Not;
     };
     joined(a, b)
 }
 
 // One byte of standard input, or 256 at its end.
-fn read_byte() -> u32 {
+fn read_byte() -> u64 {
     let mut b = [0u8; 1];
     let got = libc::read(STDIN_FILENO, &mut b);
     if got == 1 {
-        return b[0] as u32;
+        return wide(b[0]);
     }
     256
 }

@@ -1,14 +1,22 @@
-// What a line asks for.
+// Orders, a line each, and what is written in answer: text in, text out. `say` has the lines, `show` what stands on the medium.
+pub mod say;
+pub mod show;
+
 use console::Asked;
-use words::Number;
+use words::Parsed;
 use words::Span;
 
 // The keeper's calls have the numbers that `console` gives them; these follow.
 pub const OPEN: u32 = 10;
+
 pub const FORMAT: u32 = 11;
+
 pub const LOOK: u32 = 12;
+
 pub const LIST: u32 = 13;
+
 pub const HELP: u32 = 14;
+
 pub const QUIT: u32 = 15;
 // An empty line, or one that begins with #.
 pub const NOTHING: u32 = 16;
@@ -108,7 +116,7 @@ pub struct Read {
 
 fn read_number(s: &[u8], w: Span) -> Read {
     let x = words::number(s, w);
-    let Number::Is(n) = x else {
+    let Parsed::Is(n) = x else {
         return Read { n: 0, bad: true };
     };
     Read {
@@ -119,7 +127,7 @@ fn read_number(s: &[u8], w: Span) -> Read {
 
 fn read_release(s: &[u8], w: Span) -> Read {
     let x = words::release(s, w);
-    let Number::Is(n) = x else {
+    let Parsed::Is(n) = x else {
         return Read { n: 0, bad: true };
     };
     Read {

@@ -45,7 +45,9 @@ fn meaning_middle(n: u32) {
 
 fn meaning_high(n: u32) {
     if n == 9 {
-        say(b"# not a place to cut at: an update, out of range, or a cell that is not written back\n");
+        say(
+            b"# not a place to cut at: an update, out of range, or a cell that is not written back\n",
+        );
         return;
     }
     if n == 10 {
@@ -85,11 +87,11 @@ fn usage_numbers(kind: u32) {
         say(b"# expected: write CELL PART MAJOR.MINOR, as in write 0 40017 1.9\n");
         return;
     }
-    if kind == crate::order::FORMAT {
+    if kind == crate::FORMAT {
         say(b"# expected: format CELLS ROWS, as in format 2 4\n");
         return;
     }
-    if kind == crate::order::OPEN {
+    if kind == crate::OPEN {
         say(b"# expected: open FILE, a name without spaces\n");
         return;
     }
@@ -97,15 +99,17 @@ fn usage_numbers(kind: u32) {
 }
 
 pub fn usage(kind: u32) {
-    if kind == crate::order::UNKNOWN {
-        say(b"# expected: open format start step begin write read commit force back cut abort look list help quit\nerror=word\n");
+    if kind == crate::UNKNOWN {
+        say(
+            b"# expected: open format start step begin write read commit force back cut abort look list help quit\nerror=word\n",
+        );
         return;
     }
-    if kind == crate::order::LONG {
+    if kind == crate::LONG {
         say(b"# expected: a line of at most 4200 bytes\nerror=line\n");
         return;
     }
-    let alone = crate::order::alone(kind);
+    let alone = crate::alone(kind);
     if alone {
         say(b"# expected: this word and nothing after it\nerror=words\n");
         return;

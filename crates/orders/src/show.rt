@@ -73,7 +73,7 @@ fn hex(part: &[u8]) {
     }
 }
 
-fn look_at(state: State, n: u32, medium: &[u8], waiting: &[u8]) {
+fn look_at<'a>(state: State, n: u32, medium: &'a [u8], waiting: &'a [u8]) {
     let no = state.look_number(n, medium, waiting);
     if no != 0 {
         say::refused(no);
@@ -85,7 +85,7 @@ fn look_at(state: State, n: u32, medium: &[u8], waiting: &[u8]) {
 }
 
 // An entry's 32 bytes, where they stand.
-pub fn look(state: State, n: u32, medium: &[u8], waiting: &[u8], size: usize) {
+pub fn look<'a>(state: State, n: u32, medium: &'a [u8], waiting: &'a [u8], size: usize) {
     let m = words::least(size, medium.len());
     let w = words::least(row_bytes(medium), waiting.len());
     look_at(state, n, &medium[0..m], &waiting[0..w]);
