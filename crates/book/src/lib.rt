@@ -45,8 +45,6 @@ const TAG: usize = 320;
 
 pub const SIZE: usize = 448;
 
-pub const WRITES: u64 = 128;
-
 const OPEN: u64 = 1099511627777;
 
 const GONE: u64 = 1099511627776;
