@@ -1,9 +1,6 @@
 // Media as bytes: copying one, and how many of head, rows and cells differ between two.
 ghost use Prim.Native.Nat.{_<_, _≤_};
 
-// The largest medium that is tried: 32 cells, 32 rows.
-pub const MOST: usize = 1312;
-
 pub fn least(a: usize, most: usize) -> usize
     ensures { λ r. ⌜ r ≤ most ⌝ }
 {

@@ -16,23 +16,37 @@ pub mod image;
 ghost use Prim.Native.Nat.{_<_, _≤_};
 
 pub const SEED: usize = 0;
+
 pub const HISTORIES: usize = 1;
+
 pub const CALLS: usize = 2;
+
 pub const REFUSED: usize = 3;
+
 pub const STORES: usize = 4;
+
 pub const CUTS: usize = 5;
+
 pub const RECOVERIES: usize = 6;
+
 pub const RESTORED: usize = 7;
+
 pub const DIFFERENCES: usize = 8;
+
 const USED: usize = 9;
+
 const TABLE: usize = 32;
+
 const CELL: usize = 64;
+
 const VALUE: usize = 192;
+
 const TAG: usize = 320;
 
 pub const SIZE: usize = 448;
-pub const WRITES: u64 = 128;
+
 const OPEN: u64 = 1099511627777;
+
 const GONE: u64 = 1099511627776;
 
 pub fn get(book: &[u64], at: usize) -> u64 {

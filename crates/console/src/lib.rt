@@ -10,14 +10,23 @@ use keeper::WrittenBack;
 use medium::layout::cell_at;
 
 pub const BEGIN: u32 = 0;
+
 pub const WRITE: u32 = 1;
+
 pub const ABORT: u32 = 2;
+
 pub const COMMIT: u32 = 3;
+
 pub const READ: u32 = 4;
+
 pub const FORCE: u32 = 5;
+
 pub const CUT: u32 = 6;
+
 pub const BACK: u32 = 7;
+
 pub const STEP: u32 = 8;
+
 pub const START: u32 = 9;
 
 // A call and its arguments, of which it takes what it needs: a cell and a value, or the entry to cut to.
@@ -30,9 +39,13 @@ pub struct Asked {
 
 // What an answer says besides its value.
 pub const PLAIN: u32 = 0;
+
 pub const STORED: u32 = 1;
+
 pub const CLEAN: u32 = 2;
+
 pub const CELL: u32 = 3;
+
 pub const HEAD: u32 = 4;
 
 // What a call did: the state that it handed back, the refusal's number or 0, what it answered, and where on the medium its store stands,
@@ -132,7 +145,13 @@ fn walked(out: Stepped) -> Did {
     let state = out.state;
     let said = out.answer;
     match said {
-        Step::Cell(cell) => answer(state, cell as u64, CELL, cell_at(state.numbers.slots, cell), 8),
+        Step::Cell(cell) => answer(
+            state,
+            cell as u64,
+            CELL,
+            cell_at(state.numbers.slots, cell),
+            8,
+        ),
         Step::Head => answer(state, 0, HEAD, 0, 32),
         Step::Clean => answer(state, 0, CLEAN, 0, 0),
         Step::Refused(number) => refusal(state, number),
@@ -168,7 +187,10 @@ fn on_both(
     waiting: &[u8],
 ) -> Did {
     if asked.call == BACK {
-        return backed(state.write_back(asked.cell, medium, current, first, last), asked.cell);
+        return backed(
+            state.write_back(asked.cell, medium, current, first, last),
+            asked.cell,
+        );
     }
     plain(State::recovery_start(medium, current, first, last, waiting))
 }

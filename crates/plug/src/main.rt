@@ -7,7 +7,8 @@ pub mod history;
 ghost use Prim.Native.Nat.{_<_, _≤_};
 use libc::STDOUT_FILENO;
 
-const TRIED: u32 = 4000;
+const TRIED: u32 = 6000;
+
 const TURNS: u32 = 60;
 
 // A size that is drawn from the smallest up.

@@ -24,7 +24,13 @@ fn restart(medium: &[u8], current: &mut [u64], slots: u32, rubbish: u32) -> Outc
     let mut first = [rubbish; 32];
     let mut last = [rubbish; 32];
     let waiting = [0xA7u8; 1024];
-    State::recovery_start(medium, current, &mut first[0..n], &mut last[0..n], &waiting[0..w])
+    State::recovery_start(
+        medium,
+        current,
+        &mut first[0..n],
+        &mut last[0..n],
+        &waiting[0..w],
+    )
 }
 
 // What a step that stored a cell must have done: the cell differed, a write had named it, and now it is as the stored transactions left it.
@@ -190,7 +196,15 @@ fn cut(medium: &[u8], cells: u32, slots: u32, most: u32, book: &mut [u64]) -> u3
     let mut copy = [0u8; 1312];
     let mut before = [0u8; 1312];
     let m = image::least(medium.len(), 1312);
-    twice(medium, &mut copy[0..m], &mut before[0..m], cells, slots, most, book)
+    twice(
+        medium,
+        &mut copy[0..m],
+        &mut before[0..m],
+        cells,
+        slots,
+        most,
+        book,
+    )
 }
 
 // Power cut with this on the medium, and again after each cell that the recovery that follows stores.

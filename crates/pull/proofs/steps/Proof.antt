@@ -1,13 +1,11 @@
+-- `pull::steps` meets its contract. Medium and book keep their lengths, and the steps that are left fall.
+use Prim.Native.Nat.{_-_}
 use borrow.Author.Needs.{needs}
 use lib.ListN.{length}
-use native.Mathlib.Omega.{arith}
 use mathlib.Core.Path.{_≡_}
-use Prim.Native.Nat.{_-_, _≤_, _<_}
+use native.Mathlib.Omega.{arith}
 use Rattle.pull.proofs.steps.Statement.{statement}
 use Rattle.pull.proofs.steps.Tie as tie
-use Rattle.pull.proofs.steps.Reads as reads
-use Rattle.pull.proofs.steps.Lts as lts
-use Rattle.pull.proofs.step.Reads as step-reads
 
 abbrev Inv-loop : tie.InvT-loop
 Inv-loop medium₀ current slots most book₀ state₀ made₀ medium book state made = (length medium ≡ length medium₀) × (length book ≡ length book₀)
@@ -15,47 +13,36 @@ Inv-loop medium₀ current slots most book₀ state₀ made₀ medium book state
 abbrev μ-loop : tie.MeasureT-loop
 μ-loop medium₀ current slots most book₀ state₀ made₀ medium book state made = most - made
 
--- src/lib.rt:90:5
 loop-holds : tie.Need-loop-holds Inv-loop μ-loop
 loop-holds c = search needs
 
--- src/lib.rt:91:13
 step-requires : tie.Need-step-requires Inv-loop μ-loop
 step-requires c κs = search needs
 
--- src/lib.rt:94:13
 same-length : tie.Need-same-length Inv-loop μ-loop
 same-length c = search needs
 
--- src/lib.rt:94:13
 same-length-2 : tie.Need-same-length-2 Inv-loop μ-loop
 same-length-2 c = search needs
 
--- src/lib.rt:94:13
 returns : tie.Need-returns Inv-loop μ-loop
 returns c = search needs
 
--- src/lib.rt:96:9
 add-made : tie.Need-add-made Inv-loop μ-loop
 add-made c = omega arith
 
--- src/lib.rt:90:5
 loop-less : tie.Need-loop-less Inv-loop μ-loop
 loop-less c = omega arith
 
--- src/lib.rt:90:5
 loop-again : tie.Need-loop-again Inv-loop μ-loop
 loop-again c = search needs
 
--- src/lib.rt:80:1
 same-length-3 : tie.Need-same-length-3 Inv-loop μ-loop
 same-length-3 c = search needs
 
--- src/lib.rt:80:1
 same-length-4 : tie.Need-same-length-4 Inv-loop μ-loop
 same-length-4 c = search needs
 
--- src/lib.rt:80:1
 returns-2 : tie.Need-returns-2 Inv-loop μ-loop
 returns-2 c = search needs
 

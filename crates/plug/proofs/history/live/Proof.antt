@@ -1,15 +1,11 @@
+-- `plug::history::live` meets its contract. Every buffer keeps its length, and the turns that are left fall.
+use Prim.Native.Nat.{_-_}
 use borrow.Author.Needs.{needs}
 use lib.ListN.{length}
-use native.Mathlib.Omega.{arith}
 use mathlib.Core.Path.{_≡_}
-use Prim.Native.Nat.{_-_, _≤_, _<_}
+use native.Mathlib.Omega.{arith}
 use Rattle.plug.proofs.history.live.Statement.{statement}
 use Rattle.plug.proofs.history.live.Tie as tie
-use Rattle.plug.proofs.history.live.Reads as reads
-use Rattle.plug.proofs.history.live.Lts as lts
-use Rattle.keeper.proofs.State.recovery_start.Reads as recovery-start-reads
-use Rattle.plug.proofs.history.prepare.Reads as prepare-reads
-use Rattle.plug.proofs.history.turn.Reads as turn-reads
 
 abbrev Inv-loop : tie.InvT-loop
 Inv-loop cells slots turns medium₀ before₀ current₀ first₀ last₀ waiting₀ book₀ state₀ i₀ medium before current first last waiting book state i = (length medium ≡ length medium₀) × (length before ≡ length before₀) × (length current ≡ length current₀) × (length first ≡ length first₀) × (length last ≡ length last₀) × (length waiting ≡ length waiting₀) × (length book ≡ length book₀)
@@ -17,63 +13,48 @@ Inv-loop cells slots turns medium₀ before₀ current₀ first₀ last₀ waiti
 abbrev μ-loop : tie.MeasureT-loop
 μ-loop cells slots turns medium₀ before₀ current₀ first₀ last₀ waiting₀ book₀ state₀ i₀ medium before current first last waiting book state i = turns - i
 
--- src/history.rt:192:5
 prepare-requires : tie.Need-prepare-requires Inv-loop μ-loop
 prepare-requires c κs = search needs
 
--- src/history.rt:193:9
 recovery-start-requires : tie.Need-recovery-start-requires Inv-loop μ-loop
 recovery-start-requires c κs = search needs
 
--- src/history.rt:196:5
 loop-holds : tie.Need-loop-holds Inv-loop μ-loop
 loop-holds c = search needs
 
--- src/history.rt:197:9
 turn-requires : tie.Need-turn-requires Inv-loop μ-loop
 turn-requires c κs = search needs
 
--- src/history.rt:198:9
 add-i : tie.Need-add-i Inv-loop μ-loop
 add-i c = omega (arith, c .before .before .before .before .before .before .before .before .before .before .before .before .before .before .before .before .before .before .before .before .before .before .before .before .before .before .before .before .before .before .before .before .before .before .before .before .before .before .before .before .before .before .before .before .before .before .before .before .before .before .before .before .before .before .fits, c .before .before .before .before .before .before .before .before .before .before .before .before .before .before .before .before .before .before .before .before .before .before .loop-test .taken)
 
--- src/history.rt:196:5
 loop-less : tie.Need-loop-less Inv-loop μ-loop
 loop-less c = omega arith
 
--- src/history.rt:196:5
 loop-again : tie.Need-loop-again Inv-loop μ-loop
 loop-again c = search needs
 
--- src/history.rt:180:1
 same-length : tie.Need-same-length Inv-loop μ-loop
 same-length c = search needs
 
--- src/history.rt:180:1
 same-length-2 : tie.Need-same-length-2 Inv-loop μ-loop
 same-length-2 c = search needs
 
--- src/history.rt:180:1
 same-length-3 : tie.Need-same-length-3 Inv-loop μ-loop
 same-length-3 c = search needs
 
--- src/history.rt:180:1
 same-length-4 : tie.Need-same-length-4 Inv-loop μ-loop
 same-length-4 c = search needs
 
--- src/history.rt:180:1
 same-length-5 : tie.Need-same-length-5 Inv-loop μ-loop
 same-length-5 c = search needs
 
--- src/history.rt:180:1
 same-length-6 : tie.Need-same-length-6 Inv-loop μ-loop
 same-length-6 c = search needs
 
--- src/history.rt:180:1
 same-length-7 : tie.Need-same-length-7 Inv-loop μ-loop
 same-length-7 c = search needs
 
--- src/history.rt:180:1
 returns : tie.Need-returns Inv-loop μ-loop
 returns c = search needs
 

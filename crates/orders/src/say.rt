@@ -1,0 +1,130 @@
+// What the terminal writes. The last line of each reply begins with answer=, refused= or error=; a line for people begins with #.
+use libc::STDOUT_FILENO;
+
+pub fn say(text: &[u8]) {
+    io::write_all(STDOUT_FILENO, text);
+}
+
+pub fn pair(name: &[u8], n: u64) {
+    say(name);
+    io::print_decimal(STDOUT_FILENO, n);
+    say(b"\n");
+}
+
+fn meaning_low(n: u32) {
+    if n == 1 {
+        say(b"# not a medium, or a size that is not as N and C say, or no recovery has run\n");
+        return;
+    }
+    if n == 2 {
+        say(b"# a journal row with the expected number is no entry\n");
+        return;
+    }
+    if n == 3 {
+        say(b"# no transaction is open: begin first\n");
+        return;
+    }
+    say(b"# no such cell\n");
+}
+
+fn meaning_middle(n: u32) {
+    if n == 5 {
+        say(b"# the journal is full: force, back and cut make room\n");
+        return;
+    }
+    if n == 6 {
+        say(b"# the entry numbers are used up\n");
+        return;
+    }
+    if n == 7 {
+        say(b"# a row is not the entry that it should be\n");
+        return;
+    }
+    say(b"# the cell's last entry is not stored yet: force first\n");
+}
+
+fn meaning_high(n: u32) {
+    if n == 9 {
+        say(
+            b"# not a place to cut at: an update, out of range, or a cell that is not written back\n",
+        );
+        return;
+    }
+    if n == 10 {
+        say(b"# recovery is not at its end, or not begun: start, then step\n");
+        return;
+    }
+    say(b"# no such entry in the journal\n");
+}
+
+// A refusal, in words and by its number.
+pub fn refused(n: u32) {
+    if n < 5 {
+        meaning_low(n);
+        pair(b"refused=", n as u64);
+        return;
+    }
+    if n < 9 {
+        meaning_middle(n);
+        pair(b"refused=", n as u64);
+        return;
+    }
+    meaning_high(n);
+    pair(b"refused=", n as u64);
+}
+
+// A cell's value, in the listing's form.
+pub fn value(v: u64) {
+    pair(b"part=", v % 4294967296);
+    say(b"release=");
+    io::print_decimal(STDOUT_FILENO, v / 4294967296 % 65536);
+    pair(b".", v / 281474976710656);
+}
+
+// How an order is written, where its words were wrong.
+fn usage_numbers(kind: u32) {
+    if kind == console::WRITE {
+        say(b"# expected: write CELL PART MAJOR.MINOR, as in write 0 40017 1.9\n");
+        return;
+    }
+    if kind == crate::FORMAT {
+        say(b"# expected: format CELLS ROWS, as in format 2 4\n");
+        return;
+    }
+    if kind == crate::OPEN {
+        say(b"# expected: open FILE, a name without spaces\n");
+        return;
+    }
+    say(b"# expected: one number below 4294967296, as in read 0, back 0, cut 2, look 3\n");
+}
+
+pub fn usage(kind: u32) {
+    if kind == crate::UNKNOWN {
+        say(
+            b"# expected: open format start step begin write read commit force back cut abort look list help quit\nerror=word\n",
+        );
+        return;
+    }
+    if kind == crate::LONG {
+        say(b"# expected: a line of at most 4200 bytes\nerror=line\n");
+        return;
+    }
+    let alone = crate::alone(kind);
+    if alone {
+        say(b"# expected: this word and nothing after it\nerror=words\n");
+        return;
+    }
+    usage_numbers(kind);
+    say(b"error=words\n");
+}
+
+pub fn help() {
+    say(b"# open FILE; format CELLS ROWS; start; step until answer=head or answer=clean;\n");
+    say(b"# begin; write CELL PART MAJOR.MINOR; read CELL; commit; abort;\n");
+    say(b"# force stores one entry; back CELL stores a cell; cut ENTRY stores the head;\n");
+    say(b"# look ENTRY; list; quit\nanswer=0\n");
+}
+
+pub fn no_file() {
+    say(b"# expected: open FILE first\nerror=file\n");
+}

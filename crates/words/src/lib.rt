@@ -1,0 +1,222 @@
+// Words of a line, the numbers and releases that they are, and a line read from standard input. Every function takes any bytes.
+ghost use Prim.Native.Nat.{_<_, _≤_};
+use libc::STDIN_FILENO;
+
+// A word's place in its line; an empty one has from = to.
+pub struct Span {
+    pub from: usize,
+    pub to: usize,
+}
+
+pub enum Parsed {
+    Is(u64),
+    Not,
+}
+
+// What `read_line` answers where there is no line any more.
+pub const END: usize = 1000001;
+
+pub fn least(a: usize, most: usize) -> usize
+    ensures { λ r. ⌜ r ≤ most ⌝ }
+{
+    if a < most {
+        return a;
+    }
+    most
+}
+
+pub fn byte(s: &[u8], i: usize) -> u8 {
+    if i < s.len() {
+        return s[i];
+    }
+    0
+}
+
+fn put(s: &mut [u8], i: usize, x: u8) {
+    if i < s.len() {
+        s[i] = x;
+    }
+}
+
+fn wide(x: u8) -> u64
+    ensures { λ r. ⌜ r < 256 ⌝ }
+{
+    x as u64
+}
+
+// The first place from `from` on that is no space, or the end.
+fn spaces_end(s: &[u8], from: usize) -> usize {
+    let n = s.len();
+    let mut i = from;
+    while i < n {
+        if byte(s, i) != b' ' {
+            return i;
+        }
+        i += 1;
+    }
+    n
+}
+
+// The first place from `from` on that is a space, or the end.
+fn word_end(s: &[u8], from: usize) -> usize {
+    let n = s.len();
+    let mut i = from;
+    while i < n {
+        if byte(s, i) == b' ' {
+            return i;
+        }
+        i += 1;
+    }
+    n
+}
+
+// The first word from `from` on.
+pub fn word_after(s: &[u8], from: usize) -> Span {
+    let start = spaces_end(s, from);
+    let end = word_end(s, start);
+    Span {
+        from: start,
+        to: end,
+    }
+}
+
+pub fn is_empty(w: Span) -> bool {
+    w.to <= w.from
+}
+
+// A word of up to 8 bytes as one number, its first byte the highest; 0 for a longer one.
+pub fn key(s: &[u8], w: Span) -> u64 {
+    let to = w.to;
+    let mut i = w.from;
+    let mut k: u64 = 0;
+    while i < to {
+        if 72057594037927935 < k {
+            return 0;
+        }
+        k = k * 256 + wide(byte(s, i));
+        i += 1;
+    }
+    k
+}
+
+// A number with one more digit; a number of up to ten digits never grows past the bound.
+fn shifted(n: u64, digit: u8) -> u64 {
+    n % 10000000000 * 10 + wide(digit) % 16
+}
+
+// The decimal number, of at most ten digits and below 2^32, that the word is.
+pub fn number(s: &[u8], w: Span) -> Parsed {
+    let to = w.to;
+    let mut i = w.from;
+    if to <= i {
+        return Parsed::Not;
+    }
+    if 10 < to - i {
+        return Parsed::Not;
+    }
+    let mut n: u64 = 0;
+    while i < to {
+        let d = byte(s, i);
+        if d < b'0' {
+            return Parsed::Not;
+        }
+        if b'9' < d {
+            return Parsed::Not;
+        }
+        n = shifted(n, d);
+        i += 1;
+    }
+    if 4294967295 < n {
+        return Parsed::Not;
+    }
+    Parsed::Is(n)
+}
+
+// Where the word's first point stands, or its end.
+fn point(s: &[u8], w: Span) -> usize {
+    let to = w.to;
+    let mut i = w.from;
+    while i < to {
+        if byte(s, i) == b'.' {
+            return i;
+        }
+        i += 1;
+    }
+    to
+}
+
+// Two numbers below 65,536 as one.
+fn joined(major: u64, minor: u64) -> Parsed {
+    if 65535 < major {
+        return Parsed::Not;
+    }
+    if 65535 < minor {
+        return Parsed::Not;
+    }
+    Parsed::Is(major + 65536 * minor)
+}
+
+// The release that the word is, major, a point, minor: major + 65,536 * minor.
+pub fn release(s: &[u8], w: Span) -> Parsed {
+    let p = point(s, w);
+    if w.to <= p {
+        return Parsed::Not;
+    }
+    let before = Span {
+        from: w.from,
+        to: p,
+    };
+    let after = Span {
+        from: p + 1,
+        to: w.to,
+    };
+    let major = number(s, before);
+    let Parsed::Is(a) = major else {
+        return Parsed::Not;
+    };
+    let minor = number(s, after);
+    let Parsed::Is(b) = minor else {
+        return Parsed::Not;
+    };
+    joined(a, b)
+}
+
+// One byte of standard input, or 256 at its end.
+fn read_byte() -> u64 {
+    let mut b = [0u8; 1];
+    let got = libc::read(STDIN_FILENO, &mut b);
+    if got == 1 {
+        return wide(b[0]);
+    }
+    256
+}
+
+// One more byte in a line, up to one that does not fit.
+fn more(n: usize, most: usize) -> usize {
+    if n <= most {
+        if n < 1000000 {
+            return n + 1;
+        }
+    }
+    n
+}
+
+// A line of standard input without its end: its length, END where there is none, more than the buffer's length for one that does not fit.
+pub fn read_line(line: &mut [u8]) -> usize {
+    let most = line.len();
+    let mut n = 0;
+    let mut turns: u64 = 18446744073709551615;
+    while 0 < turns {
+        turns -= 1;
+        let b = read_byte();
+        if b == 10 {
+            return n;
+        }
+        if 255 < b {
+            return if n == 0 { END } else { n };
+        }
+        put(line, n, (b % 256) as u8);
+        n = more(n, most);
+    }
+    END
+}
