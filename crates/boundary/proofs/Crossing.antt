@@ -12,6 +12,7 @@ use Rattle.state.specs.State.{stateOf}
 use Rattle.refusal.specs.Lent.{lentTo}
 use Rattle.keeper.specs.Answers.{handed, stateless, leaves}
 use Rattle.keeper.specs.declared.State as code
+use Rattle.boundary.proofs.SevenNumbers.{put-back}
 use Rattle.boundary.specs.Boundary.{numbersOf, isState, seven, stateIn, stateAfter, Result, result, noValue, lentOver, handedBack, over, startOver}
 
 module _ (xs m c f l w : List ℕ) (t : Bool) (e : t ≡ isState xs) where
@@ -38,6 +39,15 @@ module _ (xs m c f l w : List ℕ) (t : Bool) (e : t ≡ isState xs) where
         rw (n, u, y)
         (ap (λ b. handedBack value (pick b (numbersOf (o .keeper .state)) xs) o) (sym p ∙ e)
         ∙ ap (λ (x : Outcome). handedBack value (stateAfter xs (x .keeper .state)) x) (d ∙ ap call (lent-state p s q)))
+
+    -- a refused call that keeps its state keeps the slice
+    pub kept : t ≡ true → (s next : code.State) (a : Answer) (m2 c2 f2 l2 w2 : List ℕ) (number v : ℕ)
+        → stateOf (s .numbers) (s .phase) ≡ seven xs → leaves a next m2 c2 f2 l2 w2 ≡ call (handed s m c f l w) → number ≡ refusalOf a → v ≡ value a
+        → call (handed s m c f l w) .keeper .state ≡ stateOf (s .numbers) (s .phase) → result number v xs m2 c2 f2 l2 w2 ≡ over value call xs m c f l w
+    unfolding leaves handed lentTo
+    kept p s next a m2 c2 f2 l2 w2 number v q d n u y =
+        crossed p s next a m2 c2 f2 l2 w2 number v xs q d n u
+        (sym (put-back xs (sym e ∙ p)) ∙ ap numbersOf (sym q ∙ sym y ∙ sym (ap (λ (x : Outcome). x .keeper .state) d)))
 
     pub no-state : t ≡ false → value (refused 1) ≡ 0 → call (stateless m c f l w) ≡ record { answer = refused 1; keeper = stateless m c f l w }
         → result 1 0 xs m c f l w ≡ over value call xs m c f l w

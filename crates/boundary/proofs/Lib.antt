@@ -1,4 +1,5 @@
 pub mod Crossing
+pub mod Kept
 pub mod Places
 pub mod RowLaws
 pub mod SevenNumbers

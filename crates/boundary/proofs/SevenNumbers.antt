@@ -1,57 +1,75 @@
 -- The state and its seven numbers: one law for each exit of the functions between them, and that each gives the other back.
-use Prim.Native.Nat.{ℕ, _≤_, _<_}
+use Prim.Native.Nat.{ℕ, zero, suc, _≤_, _<_}
 use mathlib.Core.Path.{_≡_, refl, sym, ap, _∙_}
 use mathlib.Core.Bool.{Bool, true, false, _&&_}
 use mathlib.Core.List.{List, [], _∷_}
+use mathlib.Core.Option.{Option, none, some}
 use native.Mathlib.Omega.{arith}
-use borrow.Author.Tests.{eq-eqb, ne-eqb, eqb-true, leb-true}
+use borrow.Author.Tests.{eq-eqb, ne-eqb, le-leb, lt-leb, eqb-true, leb-true}
 use lib.Dec.{eqb, leb}
 use lib.ListN.{length, getD, set}
 use Rattle.scope.specs.Bytes.{pick}
 use Rattle.scope.specs.Keeper.{Phase, idle, run, recovering, State}
 use Rattle.state.specs.State.{phaseOf, stateOf}
 use Rattle.state.specs.declared.Phase as code
+use Rattle.state.specs.declared.Phase.the-variants.{Idle, Run, Recovering}
 use Rattle.state.proofs.Facts.{and-left, and-right}
-use Rattle.boundary.specs.Boundary.{phaseNo, phaseIn, numbersOf, isState, seven, stateIn}
+use Rattle.boundary.specs.Boundary.{phaseNo, phaseIn, numbersOf, isState, seven, stateHeld, stateIn}
+use Rattle.boundary.specs.Held.{heldIn}
+use Rattle.boundary.specs.declared.numbers.Held as held
+use Rattle.boundary.specs.declared.numbers.Held.the-variants as variants
+use Rattle.keeper.specs.declared.State as keeper
+
+-- the seven numbers of a slice, as the code reads them
+
+abbrev Read : List ℕ → code.Phase → State
+Read s p = stateOf (record { cells = getD s 0 0; slots = getD s 1 0; h = getD s 2 0; f = getD s 3 0; l = getD s 4 0; o = getD s 5 0 }) p
 
 module _ (s : List ℕ) where
-  pub other-length : (length s ≡ 7 → ⊥) → false ≡ isState s
-  unfolding isState
+  pub other-length : (length s ≡ 7 → ⊥) → none ≡ stateHeld s
+  unfolding stateHeld isState
   other-length h = simp (ne-eqb (length s) 7 h)
 
-  pub by-phase : length s ≡ 7 → leb (getD s 6 0) 2 ≡ isState s
-  unfolding isState
-  by-phase h = simp (eq-eqb (length s) 7 h)
+  module _ (h : length s ≡ 7) where
+    pub other-phase : 2 < getD s 6 0 → none ≡ stateHeld s
+    unfolding stateHeld isState
+    other-phase i = simp (eq-eqb (length s) 7 h, lt-leb (getD s 6 0) 2 i)
 
-  module _ (t : Bool) (e : t ≡ isState s) (p : t ≡ true) where
-    pub is-seven : length s ≡ 7
-    unfolding isState
-    is-seven = eqb-true (length s) 7 (and-left (eqb (length s) 7) (leb (getD s 6 0) 2) (sym e ∙ p))
+    pub held-idle : getD s 6 0 ≡ 0 → some (Read s Idle) ≡ stateHeld s
+    unfolding stateHeld isState seven phaseIn stateOf
+    held-idle i = simp (eq-eqb (length s) 7 h, le-leb (getD s 6 0) 2 (omega arith), eq-eqb (getD s 6 0) 0 i)
 
-    is-phase : getD s 6 0 ≤ 2
-    unfolding isState
-    is-phase = leb-true (getD s 6 0) 2 (and-right (eqb (length s) 7) (leb (getD s 6 0) 2) (sym e ∙ p))
+    pub held-run : getD s 6 0 ≡ 1 → some (Read s Run) ≡ stateHeld s
+    unfolding stateHeld isState seven phaseIn stateOf
+    held-run i = simp (eq-eqb (length s) 7 h, le-leb (getD s 6 0) 2 (omega arith), ne-eqb (getD s 6 0) 0 (omega arith), eq-eqb (getD s 6 0) 1 i)
 
-module _ (n : ℕ) where
-  pub in-idle : n ≡ 0 → idle ≡ phaseIn n
-  unfolding phaseIn
-  in-idle h = simp (eq-eqb n 0 h)
+    pub held-recovering : getD s 6 0 ≡ 2 → some (Read s Recovering) ≡ stateHeld s
+    unfolding stateHeld isState seven phaseIn stateOf
+    held-recovering i = simp (eq-eqb (length s) 7 h, le-leb (getD s 6 0) 2 (omega arith), ne-eqb (getD s 6 0) 0 (omega arith), ne-eqb (getD s 6 0) 1 (omega arith))
 
-  pub in-run : n ≡ 1 → run ≡ phaseIn n
-  unfolding phaseIn
-  in-run h = simp (ne-eqb n 0 (omega arith), eq-eqb n 1 h)
+-- what the code's answer says of the slice
 
-  pub in-recovering : 2 ≤ n → recovering ≡ phaseIn n
-  unfolding phaseIn
-  in-recovering h = simp (ne-eqb n 0 (omega arith), ne-eqb n 1 (omega arith))
+pub record Holds (s : List ℕ) (x : State) : Type 0 where
+  pub is-state : isState s ≡ true
+  pub is-seven : length s ≡ 7
+  pub read : x ≡ seven s
 
--- the numbers of a slice, as a state
+module _ (r : held.Held) (s : List ℕ) (e : heldIn r ≡ stateHeld s) where
+  pub holds-none : r ≡ variants.Nothing → isState s ≡ false
+  unfolding stateHeld
+  holds-none p = go (isState s) (sym (ap heldIn p) ∙ e)
+    where
+      go : (t : Bool) → none ≡ pick t (some (seven s)) none → t ≡ false
+      go true q = cc
+      go false q = refl
 
-pub read-seven : (s : List ℕ) (p : code.Phase) → phaseOf p ≡ phaseIn (getD s 6 0)
-    → stateOf (record { cells = getD s 0 0; slots = getD s 1 0; h = getD s 2 0; f = getD s 3 0; l = getD s 4 0; o = getD s 5 0 }) p ≡ seven s
-unfolding stateOf seven
-read-seven s p e =
-    ap (λ x. record { cells = getD s 0 0; slots = getD s 1 0; h = getD s 2 0; f = getD s 3 0; l = getD s 4 0; o = getD s 5 0; phase = x }) e
+  pub holds-state : (x : keeper.State) → r ≡ variants.State x → Holds s (stateOf (x .numbers) (x .phase))
+  unfolding stateHeld isState
+  holds-state x p = go (isState s) refl (sym (ap heldIn p) ∙ e)
+    where
+      go : (t : Bool) → isState s ≡ t → some (stateOf (x .numbers) (x .phase)) ≡ pick t (some (seven s)) none → Holds s (stateOf (x .numbers) (x .phase))
+      go true i q = record { is-state = i; is-seven = eqb-true (length s) 7 (and-left (eqb (length s) 7) (leb (getD s 6 0) 2) i); read = cc }
+      go false i q = let z : _≡_ {A = ℕ} 0 1 = cc in absurd (omega arith)
 
 -- seven stores
 
@@ -79,3 +97,30 @@ read-back s = go (s .cells) (s .slots) (s .h) (s .f) (s .l) (s .o) (s .phase)
     go cells slots h f l o idle = refl
     go cells slots h f l o run = refl
     go cells slots h f l o recovering = refl
+
+-- and a slice that holds a state is its numbers
+
+phase-back : (n : ℕ) → n ≤ 2 → phaseNo (phaseIn n) ≡ n
+unfolding phaseIn
+phase-back zero h = refl
+phase-back (suc zero) h = refl
+phase-back (suc (suc zero)) h = refl
+phase-back (suc (suc (suc n))) h = absurd (omega arith)
+
+numbers-back : (s : List ℕ) → length s ≡ 7 → getD s 6 0 ≤ 2 → numbersOf (seven s) ≡ s
+unfolding numbersOf seven
+numbers-back [] n h = absurd (omega arith)
+numbers-back (x ∷ []) n h = absurd (omega arith)
+numbers-back (x ∷ x2 ∷ []) n h = absurd (omega arith)
+numbers-back (x ∷ x2 ∷ x3 ∷ []) n h = absurd (omega arith)
+numbers-back (x ∷ x2 ∷ x3 ∷ x4 ∷ []) n h = absurd (omega arith)
+numbers-back (x ∷ x2 ∷ x3 ∷ x4 ∷ x5 ∷ []) n h = absurd (omega arith)
+numbers-back (x ∷ x2 ∷ x3 ∷ x4 ∷ x5 ∷ x6 ∷ []) n h = absurd (omega arith)
+numbers-back (x ∷ x2 ∷ x3 ∷ x4 ∷ x5 ∷ x6 ∷ x7 ∷ []) n h = ap (λ y. x ∷ x2 ∷ x3 ∷ x4 ∷ x5 ∷ x6 ∷ y ∷ []) (phase-back x7 h)
+numbers-back (x ∷ x2 ∷ x3 ∷ x4 ∷ x5 ∷ x6 ∷ x7 ∷ x8 ∷ xs) n h = absurd (omega arith)
+
+pub put-back : (s : List ℕ) → isState s ≡ true → numbersOf (seven s) ≡ s
+unfolding isState
+put-back s i =
+    numbers-back s (eqb-true (length s) 7 (and-left (eqb (length s) 7) (leb (getD s 6 0) 2) i))
+    (leb-true (getD s 6 0) 2 (and-right (eqb (length s) 7) (leb (getD s 6 0) 2) i))

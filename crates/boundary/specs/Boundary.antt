@@ -2,6 +2,7 @@
 use Prim.Native.Nat.{ℕ}
 use mathlib.Core.Bool.{Bool, _&&_}
 use mathlib.Core.List.{List, [], _∷_}
+use mathlib.Core.Option.{Option, none, some}
 use lib.Dec.{eqb, leb}
 use lib.ListN.{length, getD}
 use Rattle.scope.specs.Bytes.{pick}
@@ -35,7 +36,11 @@ seven s =
       phase = phaseIn (getD s 6 0);
     }
 
--- the state in a slice; a slice that holds none stands for the state of zeros, which is not sound
+-- the state in a slice, if it holds one
+unfoldable pub stateHeld : List ℕ → Option State
+stateHeld s = pick (isState s) (some (seven s)) none
+
+-- the state that a call is handed in a slice; a slice that holds none stands for the state of zeros, which is not sound
 unfoldable pub stateIn : List ℕ → State
 stateIn s = pick (isState s) (seven s) noState
 

@@ -1,3 +1,4 @@
 pub mod Boundary
+pub mod Held
 pub mod Parts
 pub mod Rows

@@ -3,7 +3,7 @@ ghost use mathlib.Core.Path.{_≡_};
 ghost use mathlib.Core.List.{[]};
 ghost use Rattle.boundary.specs.Boundary.{lentOver};
 ghost use Rattle.boundary.specs.Parts.{Looked, Viewed};
-use crate::numbers::is_state;
+use crate::numbers::Held;
 use crate::numbers::state_in;
 use medium::head::table_view_number;
 use medium::layout::index;
@@ -20,11 +20,9 @@ pub extern "C" fn keeper_look(
     ensures { λ r. ⌜ Looked n (lentOver (now (state .entry)) (now (medium .entry)) [] [] [] (now (waiting .entry))) r (now (value .exit)) ⌝ }
 {
     *value = 0;
-    let held = is_state(state);
-    if held {} else {
+    let Held::State(s) = state_in(state) else {
         return 1;
-    }
-    let s = state_in(state);
+    };
     let no = s.look_number(n, medium, waiting);
     if no != 0 {
         return no;

@@ -4,7 +4,8 @@ ghost use lib.ListN.{length};
 ghost use Rattle.scope.specs.Keeper.{refusalOf, valueOf};
 ghost use Rattle.state.specs.State.{phaseOf, stateOf};
 ghost use Rattle.keeper.specs.Answers.{answered, stepped, writtenBack};
-ghost use Rattle.boundary.specs.Boundary.{phaseNo, phaseIn, numbersOf, isState, seven, stepValue, backValue};
+ghost use Rattle.boundary.specs.Boundary.{phaseNo, numbersOf, stateHeld, stepValue, backValue};
+ghost use Rattle.boundary.specs.Held.{heldIn};
 use keeper::Answer;
 use keeper::Back;
 use keeper::State;
@@ -12,25 +13,10 @@ use keeper::Step;
 use state::Numbers;
 use state::Phase;
 
-// Whether the slice holds a state.
-pub fn is_state(s: &[u32]) -> bool
-    ensures { λ r. ⌜ r ≡ isState (now (s .entry)) ⌝ }
-{
-    if s.len() != 7 {
-        return false;
-    }
-    s[6] <= 2
-}
-
-// The phase of a number up to 2.
-fn phase_in(n: u32) -> Phase
-    ensures { λ r. ⌜ phaseOf r ≡ phaseIn n ⌝ }
-{
-    match n {
-        0 => Phase::Idle,
-        1 => Phase::Run,
-        2..=4294967295 => Phase::Recovering,
-    }
+// What a slice of numbers holds.
+pub enum Held {
+    State(State),
+    Nothing,
 }
 
 fn phase_number(phase: Phase) -> u32
@@ -43,11 +29,13 @@ fn phase_number(phase: Phase) -> u32
     }
 }
 
-// The state in seven numbers.
-pub fn state_in(s: &[u32]) -> State
-    requires { ⌜ length (now s) ≡ 7 ⌝ }
-    ensures { λ r. ⌜ stateOf (r .numbers) (r .phase) ≡ seven (now (s .entry)) ⌝ }
+// The state in a slice, or that it holds none.
+pub fn state_in(s: &[u32]) -> Held
+    ensures { λ r. ⌜ heldIn r ≡ stateHeld (now (s .entry)) ⌝ }
 {
+    if s.len() != 7 {
+        return Held::Nothing;
+    }
     let numbers = Numbers {
         cells: s[0],
         slots: s[1],
@@ -56,8 +44,21 @@ pub fn state_in(s: &[u32]) -> State
         l: s[4],
         o: s[5],
     };
-    let phase = phase_in(s[6]);
-    State { numbers, phase }
+    match s[6] {
+        0 => Held::State(State {
+            numbers,
+            phase: Phase::Idle,
+        }),
+        1 => Held::State(State {
+            numbers,
+            phase: Phase::Run,
+        }),
+        2 => Held::State(State {
+            numbers,
+            phase: Phase::Recovering,
+        }),
+        3..=4294967295 => Held::Nothing,
+    }
 }
 
 // The state put back as seven numbers.

@@ -3,10 +3,10 @@ ghost use mathlib.Core.Path.{_≡_};
 ghost use mathlib.Core.List.{[]};
 ghost use Rattle.scope.specs.Calls.{recoveryStart, recoveryStep};
 ghost use Rattle.boundary.specs.Boundary.{stepValue, result, over, startOver};
-use crate::numbers::is_state;
+use crate::numbers::Held;
+use crate::numbers::state_in;
 use crate::numbers::number_of;
 use crate::numbers::put_state;
-use crate::numbers::state_in;
 use crate::numbers::step_number;
 use crate::numbers::step_value;
 use keeper::State;
@@ -24,7 +24,7 @@ pub extern "C" fn keeper_recovery_start(
 {
     if state.len() != 7 {
         return 1;
-    }
+    };
     let out = State::recovery_start(medium, current, first, last, waiting);
     let next = out.state;
     put_state(state, next);
@@ -41,12 +41,11 @@ pub extern "C" fn keeper_recovery_step(
 ) -> u32
     ensures { λ r. ⌜ result r (now (value .exit)) (now (state .exit)) (now (medium .exit)) (now (current .entry)) [] [] [] ≡ over stepValue recoveryStep (now (state .entry)) (now (medium .entry)) (now (current .entry)) [] [] [] ⌝ }
 {
-    let held = is_state(state);
-    if held {} else {
+    let Held::State(s) = state_in(state) else {
         *value = 0;
         return 1;
-    }
-    let out = state_in(state).recovery_step(medium, current);
+    };
+    let out = s.recovery_step(medium, current);
     let next = out.state;
     put_state(state, next);
     let answer = out.answer;

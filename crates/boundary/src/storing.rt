@@ -7,11 +7,12 @@ ghost use Rattle.medium.specs.Lent.{onMedium};
 ghost use Rattle.boundary.specs.Boundary.{noValue, backValue, result, over};
 use crate::numbers::back_number;
 use crate::numbers::back_value;
-use crate::numbers::is_state;
+use crate::numbers::Held;
+use crate::numbers::state_in;
 use crate::numbers::number_of;
 use crate::numbers::put_state;
-use crate::numbers::state_in;
 use crate::numbers::value_of;
+use keeper::Answer;
 
 #[no_mangle]
 pub extern "C" fn keeper_format(medium: &mut [u8], cells: u32, slots: u32) -> u32
@@ -30,15 +31,18 @@ pub extern "C" fn keeper_force(
 ) -> u32
     ensures { λ r. ⌜ result r (now (value .exit)) (now (state .exit)) (now (medium .exit)) [] [] [] (now (waiting .entry)) ≡ over valueOf force (now (state .entry)) (now (medium .entry)) [] [] [] (now (waiting .entry)) ⌝ }
 {
-    let held = is_state(state);
-    if held {} else {
+    let Held::State(s) = state_in(state) else {
         *value = 0;
         return 1;
+    };
+    let out = s.force(medium, waiting);
+    let answer = out.answer;
+    if let Answer::Refused(number) = answer {
+        *value = 0;
+        return number;
     }
-    let out = state_in(state).force(medium, waiting);
     let next = out.state;
     put_state(state, next);
-    let answer = out.answer;
     *value = value_of(answer);
     number_of(answer)
 }
@@ -55,12 +59,11 @@ pub extern "C" fn keeper_write_back(
 ) -> u32
     ensures { λ r. ⌜ result r (now (value .exit)) (now (state .exit)) (now (medium .exit)) (now (current .entry)) (now (first .exit)) (now (last .entry)) [] ≡ over backValue (writeBack cell) (now (state .entry)) (now (medium .entry)) (now (current .entry)) (now (first .entry)) (now (last .entry)) [] ⌝ }
 {
-    let held = is_state(state);
-    if held {} else {
+    let Held::State(s) = state_in(state) else {
         *value = 0;
         return 1;
-    }
-    let out = state_in(state).write_back(cell, medium, current, first, last);
+    };
+    let out = s.write_back(cell, medium, current, first, last);
     let next = out.state;
     put_state(state, next);
     let answer = out.answer;
@@ -72,11 +75,10 @@ pub extern "C" fn keeper_write_back(
 pub extern "C" fn keeper_cut(state: &mut [u32], p: u32, medium: &mut [u8], first: &[u32]) -> u32
     ensures { λ r. ⌜ result r 0 (now (state .exit)) (now (medium .exit)) [] (now (first .entry)) [] [] ≡ over noValue (cut p) (now (state .entry)) (now (medium .entry)) [] (now (first .entry)) [] [] ⌝ }
 {
-    let held = is_state(state);
-    if held {} else {
+    let Held::State(s) = state_in(state) else {
         return 1;
-    }
-    let out = state_in(state).cut(p, medium, first);
+    };
+    let out = s.cut(p, medium, first);
     let next = out.state;
     put_state(state, next);
     let answer = out.answer;

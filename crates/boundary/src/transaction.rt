@@ -4,11 +4,12 @@ ghost use mathlib.Core.List.{[]};
 ghost use Rattle.scope.specs.Keeper.{valueOf};
 ghost use Rattle.scope.specs.Calls.{begin, read, write, commit, abort};
 ghost use Rattle.boundary.specs.Boundary.{noValue, result, over};
-use crate::numbers::is_state;
+use crate::numbers::Held;
+use crate::numbers::state_in;
 use crate::numbers::number_of;
 use crate::numbers::put_state;
-use crate::numbers::state_in;
 use crate::numbers::value_of;
+use keeper::Answer;
 
 #[no_mangle]
 pub extern "C" fn keeper_begin(
@@ -20,11 +21,10 @@ pub extern "C" fn keeper_begin(
 ) -> u32
     ensures { λ r. ⌜ result r 0 (now (state .exit)) [] (now (current .exit)) (now (first .exit)) (now (last .exit)) (now (waiting .exit)) ≡ over noValue begin (now (state .entry)) [] (now (current .entry)) (now (first .entry)) (now (last .entry)) (now (waiting .entry)) ⌝ }
 {
-    let held = is_state(state);
-    if held {} else {
+    let Held::State(s) = state_in(state) else {
         return 1;
-    }
-    let out = state_in(state).begin(current, first, last, waiting);
+    };
+    let out = s.begin(current, first, last, waiting);
     let next = out.state;
     put_state(state, next);
     let answer = out.answer;
@@ -35,12 +35,11 @@ pub extern "C" fn keeper_begin(
 pub extern "C" fn keeper_read(state: &mut [u32], cell: u32, current: &[u64], value: &mut u64) -> u32
     ensures { λ r. ⌜ result r (now (value .exit)) (now (state .exit)) [] (now (current .entry)) [] [] [] ≡ over valueOf (read cell) (now (state .entry)) [] (now (current .entry)) [] [] [] ⌝ }
 {
-    let held = is_state(state);
-    if held {} else {
+    let Held::State(s) = state_in(state) else {
         *value = 0;
         return 1;
-    }
-    let out = state_in(state).read(cell, current);
+    };
+    let out = s.read(cell, current);
     let next = out.state;
     put_state(state, next);
     let answer = out.answer;
@@ -60,11 +59,10 @@ pub extern "C" fn keeper_write(
 ) -> u32
     ensures { λ r. ⌜ result r 0 (now (state .exit)) [] (now (current .exit)) (now (first .exit)) (now (last .exit)) (now (waiting .exit)) ≡ over noValue (write cell new) (now (state .entry)) [] (now (current .entry)) (now (first .entry)) (now (last .entry)) (now (waiting .entry)) ⌝ }
 {
-    let held = is_state(state);
-    if held {} else {
+    let Held::State(s) = state_in(state) else {
         return 1;
-    }
-    let out = state_in(state).write(cell, new, current, first, last, waiting);
+    };
+    let out = s.write(cell, new, current, first, last, waiting);
     let next = out.state;
     put_state(state, next);
     let answer = out.answer;
@@ -75,15 +73,18 @@ pub extern "C" fn keeper_write(
 pub extern "C" fn keeper_commit(state: &mut [u32], waiting: &mut [u8], value: &mut u64) -> u32
     ensures { λ r. ⌜ result r (now (value .exit)) (now (state .exit)) [] [] [] [] (now (waiting .exit)) ≡ over valueOf commit (now (state .entry)) [] [] [] [] (now (waiting .entry)) ⌝ }
 {
-    let held = is_state(state);
-    if held {} else {
+    let Held::State(s) = state_in(state) else {
         *value = 0;
         return 1;
+    };
+    let out = s.commit(waiting);
+    let answer = out.answer;
+    if let Answer::Refused(number) = answer {
+        *value = 0;
+        return number;
     }
-    let out = state_in(state).commit(waiting);
     let next = out.state;
     put_state(state, next);
-    let answer = out.answer;
     *value = value_of(answer);
     number_of(answer)
 }
@@ -98,11 +99,10 @@ pub extern "C" fn keeper_abort(
 ) -> u32
     ensures { λ r. ⌜ result r 0 (now (state .exit)) [] (now (current .exit)) (now (first .exit)) (now (last .exit)) (now (waiting .exit)) ≡ over noValue abort (now (state .entry)) [] (now (current .entry)) (now (first .entry)) (now (last .entry)) (now (waiting .entry)) ⌝ }
 {
-    let held = is_state(state);
-    if held {} else {
+    let Held::State(s) = state_in(state) else {
         return 1;
-    }
-    let out = state_in(state).abort(current, first, last, waiting);
+    };
+    let out = s.abort(current, first, last, waiting);
     let next = out.state;
     put_state(state, next);
     let answer = out.answer;

@@ -1,48 +1,51 @@
 use Rattle.boundary.proofs.Unsound.{read-unsound}
 use Rattle.boundary.proofs.Crossing.{crossed, no-state}
-use Rattle.boundary.proofs.SevenNumbers.{is-seven}
+use Rattle.boundary.proofs.SevenNumbers.{holds-state, holds-none}
 use mathlib.Core.Path.{refl, sym, ap, _∙_}
 use borrow.Author.Needs.{needs}
 use Rattle.boundary.proofs.transaction.keeper_read.Statement.{statement}
 use Rattle.boundary.proofs.transaction.keeper_read.Tie as tie
 use Rattle.boundary.proofs.transaction.keeper_read.Reads as reads
 use Rattle.boundary.proofs.transaction.keeper_read.Lts as lts
-use Rattle.boundary.proofs.numbers.is_state.Reads as is-state-reads
 use Rattle.boundary.proofs.numbers.number_of.Reads as number-of-reads
 use Rattle.boundary.proofs.numbers.put_state.Reads as put-state-reads
 use Rattle.boundary.proofs.numbers.state_in.Reads as state-in-reads
 use Rattle.boundary.proofs.numbers.value_of.Reads as value-of-reads
 use Rattle.keeper.proofs.State.read.Reads as read-reads
 
--- src/transaction.rt:38:9
-is-state-requires : tie.Need-is-state-requires
-is-state-requires c κs = search needs
+-- src/transaction.rt:38:26
+state-in-requires : tie.Need-state-in-requires
+state-in-requires c κs = search needs
 
--- src/transaction.rt:41:9
+-- src/transaction.rt:38:21
+enum-known-s : tie.Need-enum-known-s
+enum-known-s c = search needs
+
+-- src/transaction.rt:39:9
+enum-told : tie.Need-enum-told
+enum-told c = search needs
+
+-- src/transaction.rt:40:9
 same-length : tie.Need-same-length
 same-length c = search needs
 
--- src/transaction.rt:41:9
+-- src/transaction.rt:40:9
 returns : tie.Need-returns
-returns c = no-state _ _ _ _ _ _ _ (c .before .is-state .ensures) _ _ (c .if1 .left) refl (read-unsound _ _ _ _ _ _)
+returns c = no-state _ _ _ _ _ _ _ refl _ _ (holds-none _ _ (c .before .before .state-in .ensures) (c .enum-told .given .1)) refl (read-unsound _ _ _ _ _ _)
 
--- src/transaction.rt:43:15
-state-in-requires : tie.Need-state-in-requires
-state-in-requires c κs = is-seven _ _ (c .before .before .is-state .ensures) (c .before .if1 .taken)
-
--- src/transaction.rt:43:9
+-- src/transaction.rt:42:9
 read-requires : tie.Need-read-requires
 read-requires c κs = search needs
 
--- src/transaction.rt:45:5
+-- src/transaction.rt:44:5
 put-state-requires : tie.Need-put-state-requires
-put-state-requires c κs = is-seven _ _ (c .before .before .before .before .before .before .is-state .ensures) (c .before .before .before .before .before .if1 .taken)
+put-state-requires c κs = let h = holds-state _ _ (c .before .before .before .before .before .before .state-in .ensures) _ (c .before .before .before .before .s .given .1) in h .is-seven
 
--- src/transaction.rt:47:14
+-- src/transaction.rt:46:14
 value-of-requires : tie.Need-value-of-requires
 value-of-requires c κs = search needs
 
--- src/transaction.rt:48:5
+-- src/transaction.rt:47:5
 number-of-requires : tie.Need-number-of-requires
 number-of-requires c κs = search needs
 
@@ -52,16 +55,17 @@ same-length-2 c = search needs
 
 -- src/transaction.rt:34:1
 returns-2 : tie.Need-returns-2
-returns-2 c = crossed _ _ _ _ _ _ _ (c .before .before .before .before .before .before .before .before .before .before .before .is-state .ensures) _ _ (c .before .before .before .before .before .before .before .before .before .before .if1 .taken) (c .before .before .before .before .before .before .before .before .state-in .result) (c .before .before .before .before .before .before .before .read .result .state) _ _ _ _ _ _ _ _ _ (c .before .before .before .before .before .before .before .before .state-in .ensures) (c .before .before .before .before .before .before .before .read .ensures) (c .number-of .ensures) (c .before .value-of .ensures) (c .before .before .before .before .put-state .ensures)
+returns-2 c = let h = holds-state _ _ (c .before .before .before .before .before .before .before .before .before .before .before .state-in .ensures) _ (c .before .before .before .before .before .before .before .before .before .s .given .1) in crossed _ _ _ _ _ _ _ refl _ _ (h .is-state) _ (c .before .before .before .before .before .before .before .read .result .state) _ _ _ _ _ _ _ _ _ (h .read) (c .before .before .before .before .before .before .before .read .ensures) (c .number-of .ensures) (c .before .value-of .ensures) (c .before .before .before .before .put-state .ensures)
 
 pub keeper-read-spec : {M : Type 1} → statement M
 keeper-read-spec =
     tie.close
     (tie.spec
-    is-state-requires
+    state-in-requires
+    enum-known-s
+    enum-told
     same-length
     returns
-    state-in-requires
     read-requires
     put-state-requires
     value-of-requires
