@@ -4,9 +4,10 @@
 
 use second::bench::{self, measure, Measured, Op, OPS};
 use second::fault;
-use second::keeper::Second;
+use second::keeper::{Keeper, Second};
 use second::layout::LARGEST;
 use second::plot::{self, Panel};
+use std::hint::black_box;
 use std::process::ExitCode;
 
 #[cfg(feature = "library")]
@@ -119,6 +120,9 @@ fn main() -> ExitCode {
         eprintln!("{USAGE}");
         return ExitCode::from(2);
     };
+    // Whoever holds this could call the plain keeper with anything: so no call of it is compiled for the measuring loop's own
+    // arguments, a length or a kind that is always the same, as none of the library's is.
+    black_box::<&dyn Keeper>(&PLAIN);
     println!("{}\n{}\n", title(), options.note);
     table();
     let panels = growth();
