@@ -1,54 +1,36 @@
-use Rattle.refusal.proofs.Lengths.{is-sound, is-lent, rows-fit, desk-fits}
-use Rattle.refusal.proofs.Tables.{abort-early, abort-late}
-use Rattle.refusal.proofs.Tables.{unfit-stop, fit-pass, stop, pass}
-use borrow.Author.Tests.{le-leb, lt-leb}
+-- `refusal::abort` meets its contract. The table cut after its first two tests.
+use borrow.Author.Needs.{needs}
 use mathlib.Core.Path.{refl, sym, _∙_}
 use native.Mathlib.Omega.{arith}
-use borrow.Author.Needs.{needs}
+use Rattle.refusal.proofs.Lengths.{is-sound, is-lent, rows-fit, desk-fits}
+use Rattle.refusal.proofs.Tables.{abort-early, abort-late, unfit-stop, fit-pass, stop, pass}
 use Rattle.refusal.proofs.abort.Statement.{statement}
 use Rattle.refusal.proofs.abort.Tie as tie
-use Rattle.refusal.proofs.abort.Reads as reads
-use Rattle.refusal.proofs.abort.Lts as lts
-use Rattle.refusal.proofs.not_updates.Reads as not-updates-reads
-use Rattle.state.proofs.Numbers.fits_desk.Reads as fits-desk-reads
-use Rattle.state.proofs.Numbers.sound.Reads as sound-reads
-use Rattle.state.proofs.both.Reads as both-reads
-use Rattle.state.proofs.is_recovering.Reads as is-recovering-reads
-use Rattle.state.proofs.refuse.Reads as refuse-reads
 
--- src/lib.rt:147:9
 fits-desk-requires : tie.Need-fits-desk-requires
 fits-desk-requires c κs = search needs
 
--- src/lib.rt:148:20
 sound-requires : tie.Need-sound-requires
 sound-requires c κs = search needs
 
--- src/lib.rt:148:9
 both-requires : tie.Need-both-requires
 both-requires c κs = search needs
 
--- src/lib.rt:150:9
 returns : tie.Need-returns
 returns c = abort-early _ _ _ _ _ (c .before .before .sound .ensures) refl _ _ _ _ _ (c .before .before .before .fits-desk .ensures) (c .before .both .ensures) 1 (unfit-stop _ _ (c .if1 .left)) (λ z. omega arith)
 
--- src/lib.rt:152:9
 is-recovering-requires : tie.Need-is-recovering-requires
 is-recovering-requires c κs = search needs
 
--- src/lib.rt:154:9
 returns-2 : tie.Need-returns-2
 returns-2 c = abort-early _ _ _ _ _ (c .before .before .before .before .sound .ensures) refl _ _ _ _ _ (c .before .before .before .before .before .fits-desk .ensures) (c .before .before .before .both .ensures) 10 (fit-pass _ 10 _ (c .before .before .if1 .taken) (stop _ 10 0 (sym (c .before .is-recovering .ensures) ∙ (c .if2 .taken)))) (λ z. omega arith)
 
--- src/lib.rt:156:12
 not-updates-requires : tie.Need-not-updates-requires
 not-updates-requires c κs = let s = is-sound (c .before .before .before .before .before .before .before .before .before .before .args .numbers) (c .before .before .before .before .before .before .before .before .before .before .args .phase) _ _ _ (c .before .before .before .before .sound .ensures) (c .before .before .before .both .ensures) (c .before .before .if1 .taken) in let d = desk-fits (c .before .before .before .before .before .before .before .before .before .before .args .numbers .cells) (c .before .before .before .before .before .before .before .before .before .before .args .numbers .slots) (c .before .before .before .before .before .before .before .before .before .before .args .current .now) (c .before .before .before .before .before .before .before .before .before .before .args .first .now) (c .before .before .before .before .before .before .before .before .before .before .args .last .now) (c .before .before .before .before .before .before .before .before .before .before .args .waiting .now) _ (c .before .before .before .before .before .fits-desk .ensures) (is-lent _ _ _ _ _ (c .before .before .before .before .sound .ensures) (c .before .before .before .both .ensures) (c .before .before .if1 .taken)) in rows-fit _ _ _ 0 1 s (omega arith) (omega arith)
 
--- src/lib.rt:156:5
 refuse-requires : tie.Need-refuse-requires
 refuse-requires c κs = search needs
 
--- src/lib.rt:137:1
 returns-3 : tie.Need-returns-3
 returns-3 c = abort-late _ _ _ _ _ (c .before .before .before .before .before .before .sound .ensures) refl _ _ _ _ _ (c .before .before .before .before .before .before .before .fits-desk .ensures) (c .before .before .before .before .before .both .ensures) 0 _ _ (fit-pass _ 0 _ (c .before .before .before .before .if1 .taken) (pass _ 10 0 0 (sym (c .before .before .before .is-recovering .ensures) ∙ (c .before .before .if2 .left)) refl)) refl (c .before .not-updates .ensures) (c .refuse .ensures)
 

@@ -1,52 +1,34 @@
-use Rattle.refusal.proofs.Tables.{commit-is}
-use Rattle.refusal.proofs.Tables.{unfit-stop, fit-pass, stop, pass}
-use borrow.Author.Tests.{le-leb, lt-leb}
-use mathlib.Core.Path.{refl, sym, _∙_}
-use native.Mathlib.Omega.{arith}
+-- `refusal::commit` meets its contract. Each exit is the table with the tests that led there.
 use borrow.Author.Needs.{needs}
+use mathlib.Core.Path.{refl}
+use Rattle.refusal.proofs.Tables.{commit-is, unfit-stop, fit-pass, stop, pass}
 use Rattle.refusal.proofs.commit.Statement.{statement}
 use Rattle.refusal.proofs.commit.Tie as tie
-use Rattle.refusal.proofs.commit.Reads as reads
-use Rattle.refusal.proofs.commit.Lts as lts
-use Rattle.state.proofs.Numbers.fits_rows.Reads as fits-rows-reads
-use Rattle.state.proofs.Numbers.sound.Reads as sound-reads
-use Rattle.state.proofs.both.Reads as both-reads
-use Rattle.state.proofs.is_idle.Reads as is-idle-reads
-use Rattle.state.proofs.is_recovering.Reads as is-recovering-reads
 
--- src/lib.rt:110:20
 sound-requires : tie.Need-sound-requires
 sound-requires c κs = search needs
 
--- src/lib.rt:110:42
 fits-rows-requires : tie.Need-fits-rows-requires
 fits-rows-requires c κs = search needs
 
--- src/lib.rt:110:9
 both-requires : tie.Need-both-requires
 both-requires c κs = search needs
 
--- src/lib.rt:112:9
 returns : tie.Need-returns
 returns c = commit-is _ _ _ _ _ (c .before .before .before .sound .ensures) refl _ _ _ 1 _ _ (c .before .before .fits-rows .ensures) (c .before .both .ensures) refl refl refl (unfit-stop _ _ (c .if1 .left))
 
--- src/lib.rt:114:9
 is-recovering-requires : tie.Need-is-recovering-requires
 is-recovering-requires c κs = search needs
 
--- src/lib.rt:116:9
 returns-2 : tie.Need-returns-2
 returns-2 c = commit-is _ _ _ _ _ (c .before .before .before .before .before .sound .ensures) (c .before .is-recovering .ensures) _ _ _ 10 10 _ (c .before .before .before .before .fits-rows .ensures) (c .before .before .before .both .ensures) refl refl (stop _ 10 _ (c .if2 .taken)) (fit-pass _ 10 10 (c .before .before .if1 .taken) refl)
 
--- src/lib.rt:118:9
 is-idle-requires : tie.Need-is-idle-requires
 is-idle-requires c κs = search needs
 
--- src/lib.rt:120:9
 returns-3 : tie.Need-returns-3
 returns-3 c = commit-is _ _ _ _ _ (c .before .before .before .before .before .before .before .sound .ensures) (c .before .before .before .is-recovering .ensures) _ _ _ 3 3 3 (c .before .before .before .before .before .before .fits-rows .ensures) (c .before .before .before .before .before .both .ensures) (c .before .is-idle .ensures) (stop _ 3 _ (c .if3 .taken)) (pass _ 10 3 3 (c .before .before .if2 .left) refl) (fit-pass _ 3 3 (c .before .before .before .before .if1 .taken) refl)
 
--- src/lib.rt:107:1
 returns-4 : tie.Need-returns-4
 returns-4 c = commit-is _ _ _ _ _ (c .before .before .before .before .before .before .before .sound .ensures) (c .before .before .before .is-recovering .ensures) _ _ _ 0 0 0 (c .before .before .before .before .before .before .fits-rows .ensures) (c .before .before .before .before .before .both .ensures) (c .before .is-idle .ensures) (pass _ 3 0 0 (c .if3 .left) refl) (pass _ 10 0 0 (c .before .before .if2 .left) refl) (fit-pass _ 0 0 (c .before .before .before .before .if1 .taken) refl)
 

@@ -1,86 +1,58 @@
-use Rattle.state.proofs.Facts.{and-left}
-use Rattle.refusal.proofs.Lengths.{is-sound, is-lent, rows-fit, medium-fits}
-use Rattle.refusal.proofs.Tables.{cut-early, cut-middle, cut-late}
-use Rattle.refusal.proofs.Tables.{unfit-stop, fit-pass, stop, pass}
-use borrow.Author.Tests.{le-leb, lt-leb}
+-- `refusal::cut` meets its contract. The table cut after its first three tests, and again after the row.
+use borrow.Author.Needs.{needs}
 use mathlib.Core.Path.{refl, sym, _∙_}
 use native.Mathlib.Omega.{arith}
-use borrow.Author.Needs.{needs}
+use Rattle.state.proofs.Facts.{and-left}
+use Rattle.refusal.proofs.Lengths.{is-sound, is-lent, rows-fit, medium-fits}
+use Rattle.refusal.proofs.Tables.{cut-early, cut-middle, cut-late, unfit-stop, fit-pass, stop, pass}
 use Rattle.refusal.proofs.cut.Statement.{statement}
 use Rattle.refusal.proofs.cut.Tie as tie
-use Rattle.refusal.proofs.cut.Reads as reads
-use Rattle.refusal.proofs.cut.Lts as lts
-use Rattle.refusal.proofs.cut_row.Reads as cut-row-reads
-use Rattle.state.proofs.Numbers.fits_cells.Reads as fits-cells-reads
-use Rattle.state.proofs.Numbers.fits_medium.Reads as fits-medium-reads
-use Rattle.state.proofs.Numbers.sound.Reads as sound-reads
-use Rattle.state.proofs.both.Reads as both-reads
-use Rattle.state.proofs.either.Reads as either-reads
-use Rattle.state.proofs.is_recovering.Reads as is-recovering-reads
-use Rattle.state.proofs.refuse.Reads as refuse-reads
-use Rattle.workspace.proofs.any_first.Reads as any-first-reads
 
--- src/lib.rt:282:9
 fits-medium-requires : tie.Need-fits-medium-requires
 fits-medium-requires c κs = search needs
 
--- src/lib.rt:283:9
 fits-cells-requires : tie.Need-fits-cells-requires
 fits-cells-requires c κs = search needs
 
--- src/lib.rt:281:9
 both-requires : tie.Need-both-requires
 both-requires c κs = search needs
 
--- src/lib.rt:285:20
 sound-requires : tie.Need-sound-requires
 sound-requires c κs = search needs
 
--- src/lib.rt:285:9
 both-requires-2 : tie.Need-both-requires-2
 both-requires-2 c κs = search needs
 
--- src/lib.rt:287:37
 either-requires : tie.Need-either-requires
 either-requires c κs = search needs
 
--- src/lib.rt:287:9
 either-requires-2 : tie.Need-either-requires-2
 either-requires-2 c κs = search needs
 
--- src/lib.rt:289:9
 returns : tie.Need-returns
 returns c = cut-early _ _ _ _ _ (c .before .before .before .before .before .before .before .sound .ensures) refl _ _ _ _ _ _ _ _ (c .before .before .before .before .before .before .before .before .before .before .fits-medium .ensures) (c .before .before .before .before .before .before .before .before .before .fits-cells .ensures) (c .before .before .before .before .before .before .before .before .both .ensures) (c .before .before .before .before .before .before .both2 .ensures) (c .before .before .either .ensures) (c .before .either2 .ensures) 1 _ _ refl refl (unfit-stop _ _ (c .if1 .left)) (λ z. omega arith)
 
--- src/lib.rt:291:9
 is-recovering-requires : tie.Need-is-recovering-requires
 is-recovering-requires c κs = search needs
 
--- src/lib.rt:293:9
 returns-2 : tie.Need-returns-2
 returns-2 c = cut-early _ _ _ _ _ (c .before .before .before .before .before .before .before .before .before .sound .ensures) (c .before .is-recovering .ensures) _ _ _ _ _ _ _ _ (c .before .before .before .before .before .before .before .before .before .before .before .before .fits-medium .ensures) (c .before .before .before .before .before .before .before .before .before .before .before .fits-cells .ensures) (c .before .before .before .before .before .before .before .before .before .before .both .ensures) (c .before .before .before .before .before .before .before .before .both2 .ensures) (c .before .before .before .before .either .ensures) (c .before .before .before .either2 .ensures) 10 10 _ refl (stop _ 10 _ (c .if2 .taken)) (fit-pass _ 10 10 (c .before .before .if1 .taken) refl) (λ z. omega arith)
 
--- src/lib.rt:296:9
 returns-3 : tie.Need-returns-3
 returns-3 c = cut-early _ _ _ _ _ (c .before .before .before .before .before .before .before .before .before .before .sound .ensures) (c .before .before .is-recovering .ensures) _ _ _ _ _ _ _ _ (c .before .before .before .before .before .before .before .before .before .before .before .before .before .fits-medium .ensures) (c .before .before .before .before .before .before .before .before .before .before .before .before .fits-cells .ensures) (c .before .before .before .before .before .before .before .before .before .before .before .both .ensures) (c .before .before .before .before .before .before .before .before .before .both2 .ensures) (c .before .before .before .before .before .either .ensures) (c .before .before .before .before .either2 .ensures) 9 9 9 (stop _ 9 _ (c .if3 .taken)) (pass _ 10 9 9 (c .before .if2 .left) refl) (fit-pass _ 9 9 (c .before .before .before .if1 .taken) refl) (λ z. omega arith)
 
--- src/lib.rt:298:9
 cut-row-requires : tie.Need-cut-row-requires
 cut-row-requires c κs = let s = is-sound (c .before .before .before .before .before .before .before .before .before .before .before .before .before .before .before .before .args .numbers) (c .before .before .before .before .before .before .before .before .before .before .before .before .before .before .before .before .args .phase) _ _ _ (c .before .before .before .before .before .before .before .before .before .before .sound .ensures) (c .before .before .before .before .before .before .before .before .before .both2 .ensures) (c .before .before .before .if1 .taken) in let d = medium-fits (c .before .before .before .before .before .before .before .before .before .before .before .before .before .before .before .before .args .numbers) (c .before .before .before .before .before .before .before .before .before .before .before .before .before .before .before .before .args .medium .now) (sym (c .before .before .before .before .before .before .before .before .before .before .before .before .before .fits-medium .ensures) ∙ and-left _ _ (sym (c .before .before .before .before .before .before .before .before .before .before .before .both .ensures) ∙ (is-lent _ _ _ _ _ (c .before .before .before .before .before .before .before .before .before .before .sound .ensures) (c .before .before .before .before .before .before .before .before .before .both2 .ensures) (c .before .before .before .if1 .taken)))) in rows-fit _ _ _ 32 1 s (omega arith) (omega arith)
 
--- src/lib.rt:300:9
 returns-4 : tie.Need-returns-4
 returns-4 c = cut-middle _ _ _ _ _ (c .before .before .before .before .before .before .before .before .before .before .before .before .sound .ensures) (c .before .before .before .before .is-recovering .ensures) _ _ _ _ _ _ _ _ (c .before .before .before .before .before .before .before .before .before .before .before .before .before .before .before .fits-medium .ensures) (c .before .before .before .before .before .before .before .before .before .before .before .before .before .before .fits-cells .ensures) (c .before .before .before .before .before .before .before .before .before .before .before .before .before .both .ensures) (c .before .before .before .before .before .before .before .before .before .before .before .both2 .ensures) (c .before .before .before .before .before .before .before .either .ensures) (c .before .before .before .before .before .before .either2 .ensures) 0 0 0 (pass _ 9 0 0 (c .before .before .if3 .left) refl) (pass _ 10 0 0 (c .before .before .before .if2 .left) refl) (fit-pass _ 0 0 (c .before .before .before .before .before .if1 .taken) refl) _ (c .before .cut-row .ensures) refl (c .if4 .taken)
 
--- src/lib.rt:302:12
 any-first-requires : tie.Need-any-first-requires
 any-first-requires c κs = search needs
 
--- src/lib.rt:302:5
 refuse-requires : tie.Need-refuse-requires
 refuse-requires c κs = search needs
 
--- src/lib.rt:278:1
 returns-5 : tie.Need-returns-5
 returns-5 c = cut-late _ _ _ _ _ (c .before .before .before .before .before .before .before .before .before .before .before .before .before .before .sound .ensures) (c .before .before .before .before .before .before .is-recovering .ensures) _ _ _ _ _ _ _ _ (c .before .before .before .before .before .before .before .before .before .before .before .before .before .before .before .before .before .fits-medium .ensures) (c .before .before .before .before .before .before .before .before .before .before .before .before .before .before .before .before .fits-cells .ensures) (c .before .before .before .before .before .before .before .before .before .before .before .before .before .before .before .both .ensures) (c .before .before .before .before .before .before .before .before .before .before .before .before .before .both2 .ensures) (c .before .before .before .before .before .before .before .before .before .either .ensures) (c .before .before .before .before .before .before .before .before .either2 .ensures) 0 0 0 (pass _ 9 0 0 (c .before .before .before .before .if3 .left) refl) (pass _ 10 0 0 (c .before .before .before .before .before .if2 .left) refl) (fit-pass _ 0 0 (c .before .before .before .before .before .before .before .if1 .taken) refl) _ (c .before .before .before .cut-row .ensures) refl _ _ (c .before .before .if4 .left) (c .before .any-first .ensures) (c .refuse .ensures)
 

@@ -1,77 +1,54 @@
-use Rattle.refusal.proofs.Lengths.{is-sound, is-lent, rows-fit, pair-fits}
-use Rattle.refusal.proofs.Tables.{force-early, force-none, force-entry, force-other, holds-entry, nothing-entry}
-use Rattle.refusal.proofs.Tables.{unfit-stop, fit-pass, stop, pass}
-use borrow.Author.Tests.{le-leb, lt-leb}
+-- `refusal::force` meets its contract. The table cut after its first two tests.
+use borrow.Author.Needs.{needs}
 use mathlib.Core.Path.{refl, sym, _∙_}
 use native.Mathlib.Omega.{arith}
-use borrow.Author.Needs.{needs}
+use Rattle.refusal.proofs.Lengths.{is-sound, is-lent, rows-fit, pair-fits}
+use Rattle.refusal.proofs.Tables.{force-early, force-none, force-entry, force-other, holds-entry, nothing-entry, unfit-stop, fit-pass, stop, pass}
 use Rattle.refusal.proofs.force.Statement.{statement}
 use Rattle.refusal.proofs.force.Tie as tie
-use Rattle.refusal.proofs.force.Reads as reads
-use Rattle.refusal.proofs.force.Lts as lts
-use Rattle.journal.proofs.entry_at.Reads as entry-at-reads
-use Rattle.state.proofs.Numbers.fits_medium.Reads as fits-medium-reads
-use Rattle.state.proofs.Numbers.fits_rows.Reads as fits-rows-reads
-use Rattle.state.proofs.Numbers.sound.Reads as sound-reads
-use Rattle.state.proofs.both.Reads as both-reads
-use Rattle.state.proofs.is_recovering.Reads as is-recovering-reads
 
--- src/lib.rt:197:9
 fits-medium-requires : tie.Need-fits-medium-requires
 fits-medium-requires c κs = search needs
 
--- src/lib.rt:198:9
 fits-rows-requires : tie.Need-fits-rows-requires
 fits-rows-requires c κs = search needs
 
--- src/lib.rt:196:9
 both-requires : tie.Need-both-requires
 both-requires c κs = search needs
 
--- src/lib.rt:200:20
 sound-requires : tie.Need-sound-requires
 sound-requires c κs = search needs
 
--- src/lib.rt:200:9
 both-requires-2 : tie.Need-both-requires-2
 both-requires-2 c κs = search needs
 
--- src/lib.rt:202:9
 returns : tie.Need-returns
 returns c = force-early _ _ _ _ _ (c .before .before .sound .ensures) refl _ _ _ _ _ (c .before .before .before .before .before .fits-medium .ensures) (c .before .before .before .before .fits-rows .ensures) (c .before .before .before .both .ensures) (c .before .both2 .ensures) 1 (unfit-stop _ _ (c .if1 .left)) (λ z. omega arith)
 
--- src/lib.rt:204:9
 is-recovering-requires : tie.Need-is-recovering-requires
 is-recovering-requires c κs = search needs
 
--- src/lib.rt:206:9
 returns-2 : tie.Need-returns-2
 returns-2 c = force-early _ _ _ _ _ (c .before .before .before .before .sound .ensures) refl _ _ _ _ _ (c .before .before .before .before .before .before .before .fits-medium .ensures) (c .before .before .before .before .before .before .fits-rows .ensures) (c .before .before .before .before .before .both .ensures) (c .before .before .before .both2 .ensures) 10 (fit-pass _ 10 _ (c .before .before .if1 .taken) (stop _ 10 0 (sym (c .before .is-recovering .ensures) ∙ (c .if2 .taken)))) (λ z. omega arith)
 
--- src/lib.rt:209:9
 returns-3 : tie.Need-returns-3
 returns-3 c = force-none _ _ _ _ _ (c .before .before .before .before .before .before .sound .ensures) refl _ _ _ _ _ (c .before .before .before .before .before .before .before .before .before .fits-medium .ensures) (c .before .before .before .before .before .before .before .before .fits-rows .ensures) (c .before .before .before .before .before .before .before .both .ensures) (c .before .before .before .before .before .both2 .ensures) 0 (fit-pass _ 0 _ (c .before .before .before .before .if1 .taken) (pass _ 10 0 0 (sym (c .before .before .before .is-recovering .ensures) ∙ (c .before .before .if2 .left)) refl)) refl (omega arith)
 
--- src/lib.rt:211:13
 add-n : tie.Need-add-n
 add-n c = search needs
 
--- src/lib.rt:212:25
 entry-at-requires : tie.Need-entry-at-requires
 entry-at-requires c κs = let s = is-sound (c .before .before .before .before .before .before .before .before .before .before .before .before .before .args .numbers) (c .before .before .before .before .before .before .before .before .before .before .before .before .before .args .phase) _ _ _ (c .before .before .before .before .before .before .before .sound .ensures) (c .before .before .before .before .before .before .both2 .ensures) (c .before .before .before .before .before .if1 .taken) in let d = pair-fits (c .before .before .before .before .before .before .before .before .before .before .before .before .before .args .numbers) (c .before .before .before .before .before .before .before .before .before .before .before .before .before .args .medium .now) (c .before .before .before .before .before .before .before .before .before .before .before .before .before .args .waiting .now) _ _ _ (c .before .before .before .before .before .before .before .before .before .before .fits-medium .ensures) (c .before .before .before .before .before .before .before .before .before .fits-rows .ensures) (c .before .before .before .before .before .before .before .before .both .ensures) (is-lent _ _ _ _ _ (c .before .before .before .before .before .before .before .sound .ensures) (c .before .before .before .before .before .before .both2 .ensures) (c .before .before .before .before .before .if1 .taken)) in rows-fit _ _ _ 0 _ s (omega arith) (omega arith)
 
 enum-told : tie.Need-enum-told
 enum-told c = search needs
 
--- src/lib.rt:213:9
 enum-told-2 : tie.Need-enum-told-2
 enum-told-2 c = search needs
 
--- src/lib.rt:213:9
 returns-4 : tie.Need-returns-4
 returns-4 c = force-other _ _ _ _ _ (c .before .before .before .before .before .before .before .before .before .before .sound .ensures) refl _ _ _ _ _ (c .before .before .before .before .before .before .before .before .before .before .before .before .before .fits-medium .ensures) (c .before .before .before .before .before .before .before .before .before .before .before .before .fits-rows .ensures) (c .before .before .before .before .before .before .before .before .before .before .before .both .ensures) (c .before .before .before .before .before .before .before .before .before .both2 .ensures) 0 (fit-pass _ 0 _ (c .before .before .before .before .before .before .before .before .if1 .taken) (pass _ 10 0 0 (sym (c .before .before .before .before .before .before .before .is-recovering .ensures) ∙ (c .before .before .before .before .before .before .if2 .left)) refl)) refl (omega arith) (nothing-entry _ _ (c .before .before .entry-at .ensures) (c .enum-told2 .given .1))
 
--- src/lib.rt:193:1
 returns-5 : tie.Need-returns-5
 returns-5 c = force-entry _ _ _ _ _ (c .before .before .before .before .before .before .before .before .before .before .sound .ensures) refl _ _ _ _ _ (c .before .before .before .before .before .before .before .before .before .before .before .before .before .fits-medium .ensures) (c .before .before .before .before .before .before .before .before .before .before .before .before .fits-rows .ensures) (c .before .before .before .before .before .before .before .before .before .before .before .both .ensures) (c .before .before .before .before .before .before .before .before .before .both2 .ensures) 0 (fit-pass _ 0 _ (c .before .before .before .before .before .before .before .before .if1 .taken) (pass _ 10 0 0 (sym (c .before .before .before .before .before .before .before .is-recovering .ensures) ∙ (c .before .before .before .before .before .before .if2 .left)) refl)) refl (omega arith) (holds-entry _ _ (c .before .before .entry-at .ensures) _ (c .enum-told .given .1))
 

@@ -1,61 +1,40 @@
-use Rattle.refusal.proofs.Tables.{look-is}
-use Rattle.refusal.proofs.Tables.{unfit-stop, fit-pass, stop, pass}
-use borrow.Author.Tests.{le-leb, lt-leb}
-use mathlib.Core.Path.{refl, sym, _∙_}
-use native.Mathlib.Omega.{arith}
+-- `refusal::look` meets its contract. Each exit is the table with the tests that led there.
 use borrow.Author.Needs.{needs}
+use mathlib.Core.Path.{refl}
+use Rattle.refusal.proofs.Tables.{look-is, unfit-stop, fit-pass, stop, pass}
 use Rattle.refusal.proofs.look.Statement.{statement}
 use Rattle.refusal.proofs.look.Tie as tie
-use Rattle.refusal.proofs.look.Reads as reads
-use Rattle.refusal.proofs.look.Lts as lts
-use Rattle.state.proofs.Numbers.fits_medium.Reads as fits-medium-reads
-use Rattle.state.proofs.Numbers.fits_rows.Reads as fits-rows-reads
-use Rattle.state.proofs.Numbers.sound.Reads as sound-reads
-use Rattle.state.proofs.both.Reads as both-reads
-use Rattle.state.proofs.either.Reads as either-reads
-use Rattle.state.proofs.is_recovering.Reads as is-recovering-reads
 
--- src/lib.rt:309:9
 fits-medium-requires : tie.Need-fits-medium-requires
 fits-medium-requires c κs = search needs
 
--- src/lib.rt:310:9
 fits-rows-requires : tie.Need-fits-rows-requires
 fits-rows-requires c κs = search needs
 
--- src/lib.rt:308:9
 both-requires : tie.Need-both-requires
 both-requires c κs = search needs
 
--- src/lib.rt:312:20
 sound-requires : tie.Need-sound-requires
 sound-requires c κs = search needs
 
--- src/lib.rt:312:9
 both-requires-2 : tie.Need-both-requires-2
 both-requires-2 c κs = search needs
 
--- src/lib.rt:313:9
 either-requires : tie.Need-either-requires
 either-requires c κs = search needs
 
--- src/lib.rt:315:9
 returns : tie.Need-returns
 returns c = look-is _ _ _ _ _ (c .before .before .before .before .before .sound .ensures) refl _ _ _ _ _ _ _ 1 _ _ (c .before .before .before .before .before .before .before .before .fits-medium .ensures) (c .before .before .before .before .before .before .before .fits-rows .ensures) (c .before .before .before .before .before .before .both .ensures) (c .before .before .before .before .both2 .ensures) (c .before .either .ensures) refl refl (unfit-stop _ _ (c .if1 .left))
 
--- src/lib.rt:317:9
 is-recovering-requires : tie.Need-is-recovering-requires
 is-recovering-requires c κs = search needs
 
--- src/lib.rt:319:9
 returns-2 : tie.Need-returns-2
 returns-2 c = look-is _ _ _ _ _ (c .before .before .before .before .before .before .before .sound .ensures) (c .before .is-recovering .ensures) _ _ _ _ _ _ _ 10 10 _ (c .before .before .before .before .before .before .before .before .before .before .fits-medium .ensures) (c .before .before .before .before .before .before .before .before .before .fits-rows .ensures) (c .before .before .before .before .before .before .before .before .both .ensures) (c .before .before .before .before .before .before .both2 .ensures) (c .before .before .before .either .ensures) refl (stop _ 10 _ (c .if2 .taken)) (fit-pass _ 10 10 (c .before .before .if1 .taken) refl)
 
--- src/lib.rt:322:9
 returns-3 : tie.Need-returns-3
 returns-3 c = look-is _ _ _ _ _ (c .before .before .before .before .before .before .before .before .sound .ensures) (c .before .before .is-recovering .ensures) _ _ _ _ _ _ _ 11 11 11 (c .before .before .before .before .before .before .before .before .before .before .before .fits-medium .ensures) (c .before .before .before .before .before .before .before .before .before .before .fits-rows .ensures) (c .before .before .before .before .before .before .before .before .before .both .ensures) (c .before .before .before .before .before .before .before .both2 .ensures) (c .before .before .before .before .either .ensures) (stop _ 11 _ (c .if3 .taken)) (pass _ 10 11 11 (c .before .if2 .left) refl) (fit-pass _ 11 11 (c .before .before .before .if1 .taken) refl)
 
--- src/lib.rt:305:1
 returns-4 : tie.Need-returns-4
 returns-4 c = look-is _ _ _ _ _ (c .before .before .before .before .before .before .before .before .sound .ensures) (c .before .before .is-recovering .ensures) _ _ _ _ _ _ _ 0 0 0 (c .before .before .before .before .before .before .before .before .before .before .before .fits-medium .ensures) (c .before .before .before .before .before .before .before .before .before .before .fits-rows .ensures) (c .before .before .before .before .before .before .before .before .before .both .ensures) (c .before .before .before .before .before .before .before .both2 .ensures) (c .before .before .before .before .either .ensures) (pass _ 11 0 0 (c .if3 .left) refl) (pass _ 10 0 0 (c .before .if2 .left) refl) (fit-pass _ 0 0 (c .before .before .before .if1 .taken) refl)
 

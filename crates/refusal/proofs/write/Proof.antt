@@ -1,74 +1,51 @@
-use Rattle.refusal.proofs.Tables.{write-is}
-use Rattle.refusal.proofs.Tables.{unfit-stop, fit-pass, stop, pass}
-use borrow.Author.Tests.{le-leb, lt-leb}
-use mathlib.Core.Path.{refl, sym, _∙_}
-use native.Mathlib.Omega.{arith}
+-- `refusal::write` meets its contract. Each exit is the table with the tests that led there.
 use borrow.Author.Needs.{needs}
+use borrow.Author.Tests.{le-leb, lt-leb}
+use mathlib.Core.Path.{refl}
+use native.Mathlib.Omega.{arith}
+use Rattle.refusal.proofs.Tables.{write-is, unfit-stop, fit-pass, stop, pass}
 use Rattle.refusal.proofs.write.Statement.{statement}
 use Rattle.refusal.proofs.write.Tie as tie
-use Rattle.refusal.proofs.write.Reads as reads
-use Rattle.refusal.proofs.write.Lts as lts
-use Rattle.state.proofs.Numbers.fits_desk.Reads as fits-desk-reads
-use Rattle.state.proofs.Numbers.full.Reads as full-reads
-use Rattle.state.proofs.Numbers.sound.Reads as sound-reads
-use Rattle.state.proofs.Numbers.used_up.Reads as used-up-reads
-use Rattle.state.proofs.both.Reads as both-reads
-use Rattle.state.proofs.is_idle.Reads as is-idle-reads
-use Rattle.state.proofs.is_recovering.Reads as is-recovering-reads
 
--- src/lib.rt:80:9
 fits-desk-requires : tie.Need-fits-desk-requires
 fits-desk-requires c κs = search needs
 
--- src/lib.rt:81:20
 sound-requires : tie.Need-sound-requires
 sound-requires c κs = search needs
 
--- src/lib.rt:81:9
 both-requires : tie.Need-both-requires
 both-requires c κs = search needs
 
--- src/lib.rt:83:9
 returns : tie.Need-returns
 returns c = write-is _ _ _ _ _ (c .before .before .sound .ensures) refl _ _ _ _ _ (c .before .before .before .fits-desk .ensures) (c .before .both .ensures) _ _ _ _ 1 _ _ _ _ _ refl refl refl refl refl refl refl refl (unfit-stop _ _ (c .if1 .left))
 
--- src/lib.rt:85:9
 is-recovering-requires : tie.Need-is-recovering-requires
 is-recovering-requires c κs = search needs
 
--- src/lib.rt:87:9
 returns-2 : tie.Need-returns-2
 returns-2 c = write-is _ _ _ _ _ (c .before .before .before .before .sound .ensures) (c .before .is-recovering .ensures) _ _ _ _ _ (c .before .before .before .before .before .fits-desk .ensures) (c .before .before .before .both .ensures) _ _ _ _ 10 10 _ _ _ _ refl refl refl refl refl refl refl (stop _ 10 _ (c .if2 .taken)) (fit-pass _ 10 10 (c .before .before .if1 .taken) refl)
 
--- src/lib.rt:89:9
 is-idle-requires : tie.Need-is-idle-requires
 is-idle-requires c κs = search needs
 
--- src/lib.rt:91:9
 returns-3 : tie.Need-returns-3
 returns-3 c = write-is _ _ _ _ _ (c .before .before .before .before .before .before .sound .ensures) (c .before .before .before .is-recovering .ensures) _ _ _ _ _ (c .before .before .before .before .before .before .before .fits-desk .ensures) (c .before .before .before .before .before .both .ensures) _ _ _ _ 3 3 3 _ _ _ (c .before .is-idle .ensures) refl refl refl refl refl (stop _ 3 _ (c .if3 .taken)) (pass _ 10 3 3 (c .before .before .if2 .left) refl) (fit-pass _ 3 3 (c .before .before .before .before .if1 .taken) refl)
 
--- src/lib.rt:94:9
 returns-4 : tie.Need-returns-4
 returns-4 c = write-is _ _ _ _ _ (c .before .before .before .before .before .before .before .before .sound .ensures) (c .before .before .before .before .before .is-recovering .ensures) _ _ _ _ _ (c .before .before .before .before .before .before .before .before .before .fits-desk .ensures) (c .before .before .before .before .before .before .before .both .ensures) _ _ _ _ 4 4 4 4 _ _ (c .before .before .before .is-idle .ensures) refl refl refl refl (stop _ 4 _ (le-leb (c .before .before .before .before .before .before .before .before .before .before .before .before .before .before .args .numbers .cells) (c .before .before .before .before .before .before .before .before .before .before .before .before .before .before .args .cell) (omega arith))) (pass _ 3 4 4 (c .before .before .if3 .left) refl) (pass _ 10 4 4 (c .before .before .before .before .if2 .left) refl) (fit-pass _ 4 4 (c .before .before .before .before .before .before .if1 .taken) refl)
 
--- src/lib.rt:96:9
 full-requires : tie.Need-full-requires
 full-requires c κs = search needs
 
--- src/lib.rt:98:9
 returns-5 : tie.Need-returns-5
 returns-5 c = write-is _ _ _ _ _ (c .before .before .before .before .before .before .before .before .before .before .sound .ensures) (c .before .before .before .before .before .before .before .is-recovering .ensures) _ _ _ _ _ (c .before .before .before .before .before .before .before .before .before .before .before .fits-desk .ensures) (c .before .before .before .before .before .before .before .before .before .both .ensures) _ _ _ _ 5 5 5 5 5 _ (c .before .before .before .before .before .is-idle .ensures) (c .before .full .ensures) refl refl (stop _ 5 _ (c .if5 .taken)) (pass _ 4 5 5 (lt-leb (c .before .before .before .before .before .before .before .before .before .before .before .before .before .before .before .before .args .numbers .cells) (c .before .before .before .before .before .before .before .before .before .before .before .before .before .before .before .before .args .cell) (omega arith)) refl) (pass _ 3 5 5 (c .before .before .before .before .if3 .left) refl) (pass _ 10 5 5 (c .before .before .before .before .before .before .if2 .left) refl) (fit-pass _ 5 5 (c .before .before .before .before .before .before .before .before .if1 .taken) refl)
 
--- src/lib.rt:100:9
 used-up-requires : tie.Need-used-up-requires
 used-up-requires c κs = search needs
 
--- src/lib.rt:102:9
 returns-6 : tie.Need-returns-6
 returns-6 c = write-is _ _ _ _ _ (c .before .before .before .before .before .before .before .before .before .before .before .before .sound .ensures) (c .before .before .before .before .before .before .before .before .before .is-recovering .ensures) _ _ _ _ _ (c .before .before .before .before .before .before .before .before .before .before .before .before .before .fits-desk .ensures) (c .before .before .before .before .before .before .before .before .before .before .before .both .ensures) _ _ _ _ 6 6 6 6 6 6 (c .before .before .before .before .before .before .before .is-idle .ensures) (c .before .before .before .full .ensures) (c .before .used-up .ensures) (stop _ 6 _ (c .if6 .taken)) (pass _ 5 6 6 (c .before .before .if5 .left) refl) (pass _ 4 6 6 (lt-leb (c .before .before .before .before .before .before .before .before .before .before .before .before .before .before .before .before .before .before .args .numbers .cells) (c .before .before .before .before .before .before .before .before .before .before .before .before .before .before .before .before .before .before .args .cell) (omega arith)) refl) (pass _ 3 6 6 (c .before .before .before .before .before .before .if3 .left) refl) (pass _ 10 6 6 (c .before .before .before .before .before .before .before .before .if2 .left) refl) (fit-pass _ 6 6 (c .before .before .before .before .before .before .before .before .before .before .if1 .taken) refl)
 
--- src/lib.rt:69:1
 returns-7 : tie.Need-returns-7
 returns-7 c = write-is _ _ _ _ _ (c .before .before .before .before .before .before .before .before .before .before .before .before .sound .ensures) (c .before .before .before .before .before .before .before .before .before .is-recovering .ensures) _ _ _ _ _ (c .before .before .before .before .before .before .before .before .before .before .before .before .before .fits-desk .ensures) (c .before .before .before .before .before .before .before .before .before .before .before .both .ensures) _ _ _ _ 0 0 0 0 0 0 (c .before .before .before .before .before .before .before .is-idle .ensures) (c .before .before .before .full .ensures) (c .before .used-up .ensures) (pass _ 6 0 0 (c .if6 .left) refl) (pass _ 5 0 0 (c .before .before .if5 .left) refl) (pass _ 4 0 0 (lt-leb (c .before .before .before .before .before .before .before .before .before .before .before .before .before .before .before .before .before .before .args .numbers .cells) (c .before .before .before .before .before .before .before .before .before .before .before .before .before .before .before .before .before .before .args .cell) (omega arith)) refl) (pass _ 3 0 0 (c .before .before .before .before .before .before .if3 .left) refl) (pass _ 10 0 0 (c .before .before .before .before .before .before .before .before .if2 .left) refl) (fit-pass _ 0 0 (c .before .before .before .before .before .before .before .before .before .before .if1 .taken) refl)
 

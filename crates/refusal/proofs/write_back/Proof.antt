@@ -1,103 +1,73 @@
-use Rattle.refusal.proofs.Lengths.{is-lent, back-fits}
-use Rattle.refusal.proofs.Tables.{back-early, back-late}
-use Rattle.refusal.proofs.Tables.{unfit-stop, fit-pass, stop, pass}
-use borrow.Author.Tests.{le-leb, lt-leb}
-use mathlib.Core.Path.{refl, sym, _∙_}
-use native.Mathlib.Omega.{arith}
+-- `refusal::write_back` meets its contract. The table cut after its first three tests.
 use borrow.Author.Needs.{needs}
+use borrow.Author.Tests.{le-leb, lt-leb}
+use mathlib.Core.Path.{refl}
+use native.Mathlib.Omega.{arith}
+use Rattle.refusal.proofs.Lengths.{is-lent, back-fits}
+use Rattle.refusal.proofs.Tables.{back-early, back-late, unfit-stop, fit-pass, stop, pass}
 use Rattle.refusal.proofs.write_back.Statement.{statement}
 use Rattle.refusal.proofs.write_back.Tie as tie
-use Rattle.refusal.proofs.write_back.Reads as reads
-use Rattle.refusal.proofs.write_back.Lts as lts
-use Rattle.medium.proofs.layout.index.Reads as index-reads
-use Rattle.state.proofs.Numbers.fits_cells.Reads as fits-cells-reads
-use Rattle.state.proofs.Numbers.fits_medium.Reads as fits-medium-reads
-use Rattle.state.proofs.Numbers.sound.Reads as sound-reads
-use Rattle.state.proofs.both.Reads as both-reads
-use Rattle.state.proofs.is_recovering.Reads as is-recovering-reads
-use Rattle.state.proofs.refuse.Reads as refuse-reads
 
--- src/lib.rt:230:9
 fits-cells-requires : tie.Need-fits-cells-requires
 fits-cells-requires c κs = search needs
 
--- src/lib.rt:231:9
 fits-cells-requires-2 : tie.Need-fits-cells-requires-2
 fits-cells-requires-2 c κs = search needs
 
--- src/lib.rt:229:9
 both-requires : tie.Need-both-requires
 both-requires c κs = search needs
 
--- src/lib.rt:234:9
 fits-medium-requires : tie.Need-fits-medium-requires
 fits-medium-requires c κs = search needs
 
--- src/lib.rt:235:14
 fits-cells-requires-3 : tie.Need-fits-cells-requires-3
 fits-cells-requires-3 c κs = search needs
 
--- src/lib.rt:235:9
 both-requires-2 : tie.Need-both-requires-2
 both-requires-2 c κs = search needs
 
--- src/lib.rt:233:9
 both-requires-3 : tie.Need-both-requires-3
 both-requires-3 c κs = search needs
 
--- src/lib.rt:237:20
 sound-requires : tie.Need-sound-requires
 sound-requires c κs = search needs
 
--- src/lib.rt:237:9
 both-requires-4 : tie.Need-both-requires-4
 both-requires-4 c κs = search needs
 
--- src/lib.rt:239:9
 returns : tie.Need-returns
 returns c = back-early _ _ _ _ _ (c .before .before .sound .ensures) refl _ _ _ _ _ _ _ _ _ _ _ _ (c .before .before .before .before .before .before .fits-medium .ensures) (c .before .before .before .before .before .fits-cells3 .ensures) (c .before .before .before .before .before .before .before .before .before .fits-cells .ensures) (c .before .before .before .before .before .before .before .before .fits-cells2 .ensures) (c .before .before .before .before .before .before .before .both .ensures) (c .before .before .before .before .both2 .ensures) (c .before .before .before .both3 .ensures) (c .before .both4 .ensures) 1 _ _ refl refl (unfit-stop _ _ (c .if1 .left)) (λ z. omega arith)
 
--- src/lib.rt:241:9
 is-recovering-requires : tie.Need-is-recovering-requires
 is-recovering-requires c κs = search needs
 
--- src/lib.rt:243:9
 returns-2 : tie.Need-returns-2
 returns-2 c = back-early _ _ _ _ _ (c .before .before .before .before .sound .ensures) (c .before .is-recovering .ensures) _ _ _ _ _ _ _ _ _ _ _ _ (c .before .before .before .before .before .before .before .before .fits-medium .ensures) (c .before .before .before .before .before .before .before .fits-cells3 .ensures) (c .before .before .before .before .before .before .before .before .before .before .before .fits-cells .ensures) (c .before .before .before .before .before .before .before .before .before .before .fits-cells2 .ensures) (c .before .before .before .before .before .before .before .before .before .both .ensures) (c .before .before .before .before .before .before .both2 .ensures) (c .before .before .before .before .before .both3 .ensures) (c .before .before .before .both4 .ensures) 10 10 _ refl (stop _ 10 _ (c .if2 .taken)) (fit-pass _ 10 10 (c .before .before .if1 .taken) refl) (λ z. omega arith)
 
--- src/lib.rt:246:9
 returns-3 : tie.Need-returns-3
 returns-3 c = back-early _ _ _ _ _ (c .before .before .before .before .before .before .sound .ensures) (c .before .before .before .is-recovering .ensures) _ _ _ _ _ _ _ _ _ _ _ _ (c .before .before .before .before .before .before .before .before .before .before .fits-medium .ensures) (c .before .before .before .before .before .before .before .before .before .fits-cells3 .ensures) (c .before .before .before .before .before .before .before .before .before .before .before .before .before .fits-cells .ensures) (c .before .before .before .before .before .before .before .before .before .before .before .before .fits-cells2 .ensures) (c .before .before .before .before .before .before .before .before .before .before .before .both .ensures) (c .before .before .before .before .before .before .before .before .both2 .ensures) (c .before .before .before .before .before .before .before .both3 .ensures) (c .before .before .before .before .before .both4 .ensures) 4 4 4 (stop _ 4 _ (le-leb (c .before .before .before .before .before .before .before .before .before .before .before .before .before .before .before .before .before .before .args .numbers .cells) (c .before .before .before .before .before .before .before .before .before .before .before .before .before .before .before .before .before .before .args .cell) (omega arith))) (pass _ 10 4 4 (c .before .before .if2 .left) refl) (fit-pass _ 4 4 (c .before .before .before .before .if1 .taken) refl) (λ z. omega arith)
 
--- src/lib.rt:248:9
 index-requires : tie.Need-index-requires
 index-requires c κs = search needs
 
--- src/lib.rt:249:26
 mul-both : tie.Need-mul-both
 mul-both c = search needs
 
--- src/lib.rt:249:26
 shared-slice-read-both : tie.Need-shared-slice-read-both
 shared-slice-read-both c = let d = back-fits (c .before .before .before .before .before .before .before .before .before .before .before .before .before .before .before .before .before .before .before .before .args .numbers .cells) (c .before .before .before .before .before .before .before .before .before .before .before .before .before .before .before .before .before .before .before .before .args .first .now) (c .before .before .before .before .before .before .before .before .before .before .before .before .before .before .before .before .before .before .before .before .args .last .now) (c .before .before .before .before .before .before .before .before .before .before .before .before .fits-medium .result) (c .before .before .before .before .before .before .before .before .before .before .before .fits-cells3 .result) _ _ _ _ (c .before .before .before .before .before .before .before .before .before .before .before .before .before .before .before .fits-cells .ensures) (c .before .before .before .before .before .before .before .before .before .before .before .before .before .before .fits-cells2 .ensures) (c .before .before .before .before .before .before .before .before .before .before .before .before .before .both .ensures) (c .before .before .before .before .before .before .before .before .before .before .both2 .ensures) _ (c .before .before .before .before .before .before .before .before .before .both3 .ensures) (is-lent _ _ _ _ _ (c .before .before .before .before .before .before .before .before .sound .ensures) (c .before .before .before .before .before .before .before .both4 .ensures) (c .before .before .before .before .before .before .if1 .taken)) in omega (arith, d)
 
--- src/lib.rt:249:49
 mul-both-2 : tie.Need-mul-both-2
 mul-both-2 c = search needs
 
--- src/lib.rt:249:49
 shared-slice-read-both-2 : tie.Need-shared-slice-read-both-2
 shared-slice-read-both-2 c = let d = back-fits (c .before .before .before .before .before .before .before .before .before .before .before .before .before .before .before .before .before .before .before .before .before .args .numbers .cells) (c .before .before .before .before .before .before .before .before .before .before .before .before .before .before .before .before .before .before .before .before .before .args .first .now) (c .before .before .before .before .before .before .before .before .before .before .before .before .before .before .before .before .before .before .before .before .before .args .last .now) (c .before .before .before .before .before .before .before .before .before .before .before .before .before .fits-medium .result) (c .before .before .before .before .before .before .before .before .before .before .before .before .fits-cells3 .result) _ _ _ _ (c .before .before .before .before .before .before .before .before .before .before .before .before .before .before .before .before .fits-cells .ensures) (c .before .before .before .before .before .before .before .before .before .before .before .before .before .before .before .fits-cells2 .ensures) (c .before .before .before .before .before .before .before .before .before .before .before .before .before .before .both .ensures) (c .before .before .before .before .before .before .before .before .before .before .before .both2 .ensures) _ (c .before .before .before .before .before .before .before .before .before .before .both3 .ensures) (is-lent _ _ _ _ _ (c .before .before .before .before .before .before .before .before .before .sound .ensures) (c .before .before .before .before .before .before .before .before .both4 .ensures) (c .before .before .before .before .before .before .before .if1 .taken)) in omega (arith, d)
 
--- src/lib.rt:249:9
 both-requires-5 : tie.Need-both-requires-5
 both-requires-5 c κs = search needs
 
--- src/lib.rt:250:5
 refuse-requires : tie.Need-refuse-requires
 refuse-requires c κs = search needs
 
--- src/lib.rt:218:1
 returns-4 : tie.Need-returns-4
 returns-4 c = back-late _ _ _ _ _ (c .before .before .before .before .before .before .before .before .before .before .before .before .sound .ensures) (c .before .before .before .before .before .before .before .before .before .is-recovering .ensures) _ _ _ _ _ _ _ _ _ _ _ _ (c .before .before .before .before .before .before .before .before .before .before .before .before .before .before .before .before .fits-medium .ensures) (c .before .before .before .before .before .before .before .before .before .before .before .before .before .before .before .fits-cells3 .ensures) (c .before .before .before .before .before .before .before .before .before .before .before .before .before .before .before .before .before .before .before .fits-cells .ensures) (c .before .before .before .before .before .before .before .before .before .before .before .before .before .before .before .before .before .before .fits-cells2 .ensures) (c .before .before .before .before .before .before .before .before .before .before .before .before .before .before .before .before .before .both .ensures) (c .before .before .before .before .before .before .before .before .before .before .before .before .before .before .both2 .ensures) (c .before .before .before .before .before .before .before .before .before .before .before .before .before .both3 .ensures) (c .before .before .before .before .before .before .before .before .before .before .before .both4 .ensures) 0 0 0 (pass _ 4 0 0 (lt-leb (c .before .before .before .before .before .before .before .before .before .before .before .before .before .before .before .before .before .before .before .before .before .before .before .before .args .numbers .cells) (c .before .before .before .before .before .before .before .before .before .before .before .before .before .before .before .before .before .before .before .before .before .before .before .before .args .cell) (omega arith)) refl) (pass _ 10 0 0 (c .before .before .before .before .before .before .before .before .if2 .left) refl) (fit-pass _ 0 0 (c .before .before .before .before .before .before .before .before .before .before .if1 .taken) refl) _ _ _ refl (c .before .before .before .before .before .index .ensures .0) (c .before .both5 .ensures) (c .refuse .ensures)
 
