@@ -4,9 +4,9 @@ ghost use mathlib.Core.List.{[]};
 ghost use Rattle.scope.specs.Calls.{recoveryStart, recoveryStep};
 ghost use Rattle.boundary.specs.Boundary.{stepValue, result, over, startOver};
 use crate::numbers::Held;
-use crate::numbers::state_in;
 use crate::numbers::number_of;
 use crate::numbers::put_state;
+use crate::numbers::state_in;
 use crate::numbers::step_number;
 use crate::numbers::step_value;
 use keeper::State;
@@ -24,7 +24,7 @@ pub extern "C" fn keeper_recovery_start(
 {
     if state.len() != 7 {
         return 1;
-    };
+    }
     let out = State::recovery_start(medium, current, first, last, waiting);
     let next = out.state;
     put_state(state, next);

@@ -5,12 +5,12 @@ ghost use Rattle.scope.specs.Keeper.{valueOf, refusalOf};
 ghost use Rattle.scope.specs.Calls.{format, force, writeBack, cut};
 ghost use Rattle.medium.specs.Lent.{onMedium};
 ghost use Rattle.boundary.specs.Boundary.{noValue, backValue, result, over};
+use crate::numbers::Held;
 use crate::numbers::back_number;
 use crate::numbers::back_value;
-use crate::numbers::Held;
-use crate::numbers::state_in;
 use crate::numbers::number_of;
 use crate::numbers::put_state;
+use crate::numbers::state_in;
 use crate::numbers::value_of;
 use keeper::Answer;
 

@@ -5,9 +5,9 @@ ghost use Rattle.scope.specs.Keeper.{valueOf};
 ghost use Rattle.scope.specs.Calls.{begin, read, write, commit, abort};
 ghost use Rattle.boundary.specs.Boundary.{noValue, result, over};
 use crate::numbers::Held;
-use crate::numbers::state_in;
 use crate::numbers::number_of;
 use crate::numbers::put_state;
+use crate::numbers::state_in;
 use crate::numbers::value_of;
 use keeper::Answer;
 

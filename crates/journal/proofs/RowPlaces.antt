@@ -1,8 +1,9 @@
 -- The row of an entry: a row is four words, and a part of 32 bytes is where its place says.
-use Prim.Native.Nat.{ℕ, suc, _+_, _-_, _≤_, _<_}
-use mathlib.Core.Path.{_≡_, sym, ap, _∙_}
+use Prim.Native.Nat.{ℕ, suc, _+_, _-_, _*_, _%_, _≤_, _<_}
+use mathlib.Core.Path.{_≡_, refl, sym, ap, _∙_}
 use mathlib.Core.List.{List, [], _∷_, _++_}
 use mathlib.Core.Option.{Option}
+use native.Mathlib.Nat.{zero-add, suc-mod, mod-lt, mod-self, mod-eq-of-lt}
 use native.Mathlib.Omega.{arith}
 use lib.ListN.{length, getD, take, drop, length-drop, length-append}
 use lib.Seq.{take-take, take-add, drop-drop, length-take-le}
@@ -14,14 +15,46 @@ use Rattle.scope.proofs.Bytes.{AllBytes, bytes-take, bytes-drop, bytesOf-number
 use Rattle.number.proofs.Numbers.{put-next}
 use Rattle.journal.specs.Entries.{entryIn}
 
-pub read-part : (rows : List ℕ) (base slots cells n row : ℕ) (e : Option Entry) → row ≡ rowAt slots n
-    → e ≡ readRow cells n (take (base + row + 32 - (base + row)) (drop (base + row) rows)) → e ≡ entryIn rows base slots cells n
-unfolding entryIn
-read-part rows base slots cells n row e p q = let k : base + row + 32 - (base + row) ≡ 32 = omega arith in q ∙ rw (k, p)
+pub from-part : (rows : List ℕ) (cells n at : ℕ) (e : Option Entry) → e ≡ readRow cells n (take (at + 32 - at) (drop at rows))
+    → e ≡ readRow cells n (take 32 (drop at rows))
+from-part rows cells n at e q = let k : at + 32 - at ≡ 32 = omega arith in q ∙ rw k
 
-pub number-part : (m : List ℕ) (slots n row x : ℕ) → row ≡ rowAt slots n → x ≡ numberAt 4 (32 + row) m → x ≡ numberAt 4 0 (rowsOf slots m n)
-unfolding numberAt
-number-part m slots n row x p q = q ∙ rw p (ap numberOf (sym (take-take 4 32 (drop (32 + rowAt slots n) m) (omega arith))))
+pub read-part : (rows : List ℕ) (base slots cells n row : ℕ) (e : Option Entry) → row ≡ rowAt slots n
+    → e ≡ readRow cells n (take 32 (drop (base + row) rows)) → e ≡ entryIn rows base slots cells n
+unfolding entryIn
+read-part rows base slots cells n row e p q = q ∙ rw p
+
+-- the row of an entry on a medium, by its place
+
+module _ (m : List ℕ) (slots n at : ℕ) (p : at ≡ 32 + rowAt slots n) where
+  pub number-from : (x : ℕ) → x ≡ numberAt 4 at m → x ≡ numberAt 4 0 (rowsOf slots m n)
+  unfolding numberAt
+  number-from x q = q ∙ rw p (ap numberOf (sym (take-take 4 32 (drop (32 + rowAt slots n) m) (omega arith))))
+
+  pub read-from : (cells : ℕ) (e : Option Entry) → e ≡ readRow cells n (take 32 (drop at m)) → e ≡ entryIn m 32 slots cells n
+  unfolding entryIn
+  read-from cells e q = q ∙ rw p
+
+-- rows one after the other
+
+module _ (slots : ℕ) where
+  pub row-first : (h r : ℕ) → 0 < slots → r ≡ h % slots → (32 + 32 * r ≡ 32 + rowAt slots (h + 1)) × (32 + 32 * r ≤ 32 * slots)
+  unfolding rowAt
+  row-first h r s e = let k : h + 1 - 1 ≡ h = omega arith in (rw (k, e), omega (arith, mod-lt h s))
+
+  module _ (at n : ℕ) (i : 0 < n) (e : at ≡ 32 + rowAt slots n) where
+    after : (n + 1 - 1) % slots ≡ suc ((n - 1) % slots) % slots
+    after = let k : n + 1 - 1 ≡ suc (n - 1) = omega arith in rw k (suc-mod (n - 1) slots)
+
+    pub row-turns : at ≡ 32 * slots → (32 ≡ 32 + rowAt slots (n + 1)) × (32 ≤ 32 * slots)
+    unfolding rowAt
+    row-turns q = let k : suc ((n - 1) % slots) ≡ slots = omega arith in (rw (after, k, mod-self), omega arith)
+
+    pub row-follows : at ≤ 32 * slots → (at ≡ 32 * slots → ⊥) → (at + 32 ≡ 32 + rowAt slots (n + 1)) × (at + 32 ≤ 32 * slots)
+    unfolding rowAt
+    row-follows h q =
+        let k : suc ((n - 1) % slots) < slots = omega arith in
+        (rw (after, mod-eq-of-lt k) (omega arith), omega arith)
 
 pub appended : (w w′ : List ℕ) (slots n row : ℕ) (v : List ℕ) → row ≡ rowAt slots n → w′ ≡ put w row v → w′ ≡ put w (rowAt slots n) v
 appended w w′ slots n row v p q = q ∙ rw p

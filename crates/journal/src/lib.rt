@@ -1,34 +1,52 @@
 // The journal: the rows of a medium, from byte 32 on, or the waiting rows, from byte 0 on. Entry n has row (n-1) mod C.
 // The row of one entry is read, appended or stored.
 ghost use mathlib.Core.Path.{_≡_};
-ghost use Prim.Native.Nat.{_+_};
-ghost use lib.ListN.{take, drop};
-ghost use Rattle.scope.specs.Bytes.{numberAt, put};
-ghost use Rattle.scope.specs.Row.{rowBytes};
+ghost use Prim.Native.Nat.{ℕ, _+_, _*_, _<_, _≤_};
+ghost use lib.ListN.{length, take, drop};
+ghost use Rattle.scope.specs.Bytes.{put};
+ghost use Rattle.scope.specs.Row.{rowBytes, readRow};
 ghost use Rattle.scope.specs.Keeper.{rowAt};
-ghost use Rattle.scope.specs.Recovery.{rowsOf};
 ghost use Rattle.row.specs.Row.{entry, meaning};
 ghost use Rattle.journal.specs.Entries.{Rows, entryIn};
+use medium::layout::index;
 use medium::layout::row_at;
 use row::Entry;
 use row::Row;
+
+// The row that begins at a place, as entry n of a table of N cells.
+pub fn entry_from(rows: &[u8], at: usize, cells: u32, n: u32) -> Row
+    requires { ⌜ at + 32 ≤ length (now rows) ⌝ }
+    ensures { λ r. ⌜ meaning r ≡ readRow cells n (take 32 (drop at (now (rows .entry)))) ⌝ }
+{
+    let end = at + 32;
+    row::read_row(&rows[at..end], cells, n)
+}
 
 // The row of entry n, of C rows that begin at a place, as that entry of a table of N cells.
 pub fn entry_at(rows: &[u8], base: usize, slots: u32, cells: u32, n: u32) -> Row
     requires { ⌜ Rows (now rows) base slots n ⌝ }
     ensures { λ r. ⌜ meaning r ≡ entryIn (now (rows .entry)) base slots cells n ⌝ }
 {
-    let at = base + row_at(slots, n);
-    let end = at + 32;
-    row::read_row(&rows[at..end], cells, n)
+    entry_from(rows, base + row_at(slots, n), cells, n)
 }
 
-// The number that the row of entry n holds on a medium.
-pub fn number_at(medium: &[u8], slots: u32, n: u32) -> u32
-    requires { ⌜ Rows (now medium) 32 slots n ⌝ }
-    ensures { λ r. ⌜ r ≡ numberAt 4 0 (rowsOf slots (now (medium .entry)) n) ⌝ }
+// Where the row of entry h+1 begins on a medium.
+pub fn first_row(slots: u32, h: u32) -> usize
+    requires { ⌜ 0 < slots ⌝ }
+    ensures { λ r. ⌜ (r ≡ 32 + rowAt slots (h + 1)) × (r ≤ 32 * slots) ⌝ }
 {
-    number::get4(medium, 32 + row_at(slots, n))
+    32 + 32 * index(h % slots)
+}
+
+// Where the row after that of an entry begins on a medium, without a division: after the last comes the first.
+pub fn next_row(slots: u32, at: usize) -> usize
+    requires { ⌜ at ≤ 32 * slots ⌝ }
+    ensures { λ r. ⌜ ((n : ℕ) → 0 < n → at ≡ 32 + rowAt slots n → (r ≡ 32 + rowAt slots (n + 1)) × (r ≤ 32 * slots)) ⌝ }
+{
+    if at == 32 * index(slots) {
+        return 32;
+    }
+    at + 32
 }
 
 // Entry n, built in its waiting row.

@@ -13,13 +13,12 @@ use lib.ListN.{length, set}
 use Rattle.scope.specs.Bytes.{pick, maxNo, numberAt}
 use Rattle.scope.specs.Row.{Entry, update, commitEntry, abortEntry, isUpdate}
 use Rattle.scope.specs.Recovery.{rowsOf, also, entriesFrom, atMost, journal}
-use Rattle.row.specs.Row.{entry}
-use Rattle.journal.specs.Entries.{entryIn}
-use Rattle.row.specs.Row.{meaning}
+use Rattle.row.specs.Row.{entry, meaning}
 use Rattle.row.specs.declared.Row.{Row}
 use Rattle.row.specs.declared.Row.the-variants.{Holds}
 use Rattle.row.specs.declared.Entry as code
 use Rattle.row.proofs.Entry.{the-type}
+use Rattle.journal.specs.Entries.{entryIn}
 use Rattle.journal.proofs.Meanings.{is-end}
 use Rattle.replay.specs.Replay.{lastOf, undoEntry, undoFrom, replayEntry, openAfter, replayFrom}
 

@@ -1,10 +1,14 @@
 // Replay of a medium's entries over a table of current values. Entries are read by `scan` before, so each row reads.
 ghost use mathlib.Core.Path.{_≡_};
-ghost use Prim.Native.Nat.{_+_, _-_, _<_, _≤_};
+ghost use Prim.Native.Nat.{_+_, _-_, _*_, _<_, _≤_};
 ghost use lib.ListN.{length};
+ghost use Rattle.scope.specs.Keeper.{rowAt};
 ghost use Rattle.journal.specs.Entries.{Rows, entryIn};
 ghost use Rattle.replay.specs.Replay.{undoEntry, undoFrom, replayEntry, openAfter, replayFrom};
 use journal::entry_at;
+use journal::entry_from;
+use journal::first_row;
+use journal::next_row;
 use medium::layout::index;
 use row::Entry;
 use row::Row;
@@ -36,19 +40,28 @@ fn undo(medium: &[u8], slots: u32, cells: u32, s: u32, n: u32, current: &mut [u6
     }
 }
 
-// Entry n + 1 replayed, where the open transaction's updates come after s. Answers the next s.
-fn replay_entry(medium: &[u8], slots: u32, cells: u32, s: u32, n: u32, current: &mut [u64]) -> u32
+// Entry n + 1, whose row begins at a place, replayed, where the open transaction's updates come after s. Answers the next s.
+fn replay_entry(
+    medium: &[u8],
+    slots: u32,
+    cells: u32,
+    s: u32,
+    n: u32,
+    at: usize,
+    current: &mut [u64],
+) -> u32
     requires { ⌜ (Rows (now medium) 32 slots 1) × ((length (now current) ≡ cells) × (n < 4294967295)) ⌝ }
+    requires place { ⌜ (at ≡ 32 + rowAt slots (n + 1)) × (at ≤ 32 * slots) ⌝ }
     ensures { λ r. ⌜ (now (current .exit) ≡ replayEntry (entryIn (now (medium .entry)) 32 slots cells) (entryIn (now (medium .entry)) 32 slots cells (n + 1)) s n (now (current .entry))) × (r ≡ openAfter (entryIn (now (medium .entry)) 32 slots cells (n + 1)) s (n + 1)) ⌝ }
 {
     let next = n + 1;
-    let Row::Holds(what) = entry_at(medium, 32, slots, cells, next) else {
+    let Row::Holds(what) = entry_from(medium, at, cells, next) else {
         return s;
     };
     match what {
         Entry::Update { cell, old: _, new } => {
-            let at = index(cell);
-            current[at] = new;
+            let place = index(cell);
+            current[place] = new;
             s
         }
         Entry::Commit => next,
@@ -66,8 +79,10 @@ pub fn replay(medium: &[u8], slots: u32, cells: u32, h: u32, e: u32, current: &m
 {
     let mut n = h;
     let mut s = h;
+    let mut at = first_row(slots, h);
     while n < e {
-        s = replay_entry(medium, slots, cells, s, n, current);
+        s = replay_entry(medium, slots, cells, s, n, at, current);
+        at = next_row(slots, at);
         n += 1;
     }
     undo(medium, slots, cells, s, n, current);

@@ -1,11 +1,13 @@
 // Which entries count.
 ghost use mathlib.Core.Path.{_≡_};
-ghost use Prim.Native.Nat.{_+_, _<_};
+ghost use Prim.Native.Nat.{_+_, _*_, _<_, _≤_};
+ghost use lib.ListN.{length};
 ghost use Rattle.scope.specs.Recovery.{atMost, journal};
 ghost use Rattle.journal.specs.Entries.{Rows};
 ghost use Rattle.replay.specs.Replay.{lastOf, upto};
-use journal::entry_at;
-use journal::number_at;
+use journal::entry_from;
+use journal::first_row;
+use journal::next_row;
 use row::Row;
 
 // The last entry that counts, or that a row with the expected number does not read as an entry.
@@ -29,16 +31,18 @@ pub fn scan(medium: &[u8], slots: u32, cells: u32, h: u32) -> Counted
 {
     let mut n = h;
     let mut left = at_most(slots, h);
+    let mut at = first_row(slots, h);
     while 0 < left {
         let next = n + 1;
-        if number_at(medium, slots, next) != next {
+        if number::get4(medium, at) != next {
             return Counted::Upto(n);
         }
-        let Row::Holds(_) = entry_at(medium, 32, slots, cells, next) else {
+        let Row::Holds(_) = entry_from(medium, at, cells, next) else {
             return Counted::Malformed;
         };
         n = next;
         left -= 1;
+        at = next_row(slots, at);
     }
     Counted::Upto(n)
 }

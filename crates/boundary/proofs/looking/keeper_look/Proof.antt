@@ -1,53 +1,39 @@
+-- `boundary::looking::keeper_look` meets its contract. Each exit is a case of the papers' call; the part at the offset is its part.
+use borrow.Author.Needs.{needs}
+use mathlib.Core.Path.{refl}
+use native.Mathlib.Omega.{arith}
 use Rattle.boundary.proofs.Places.{looked-none, looked-refused, look-facts, looked-medium, looked-waiting}
 use Rattle.boundary.proofs.SevenNumbers.{holds-state, holds-none}
-use mathlib.Core.Path.{refl, sym, ap, _∙_}
-use native.Mathlib.Omega.{arith}
-use borrow.Author.Needs.{needs}
 use Rattle.boundary.proofs.looking.keeper_look.Statement.{statement}
 use Rattle.boundary.proofs.looking.keeper_look.Tie as tie
-use Rattle.boundary.proofs.looking.keeper_look.Reads as reads
-use Rattle.boundary.proofs.looking.keeper_look.Lts as lts
-use Rattle.boundary.proofs.numbers.state_in.Reads as state-in-reads
-use Rattle.keeper.proofs.State.look_number.Reads as look-number-reads
-use Rattle.medium.proofs.layout.row_at.Reads as row-at-reads
 
--- src/looking.rt:23:26
 state-in-requires : tie.Need-state-in-requires
 state-in-requires c κs = search needs
 
--- src/looking.rt:23:21
 enum-known-s : tie.Need-enum-known-s
 enum-known-s c = search needs
 
--- src/looking.rt:24:9
 enum-told : tie.Need-enum-told
 enum-told c = search needs
 
--- src/looking.rt:24:9
 returns : tie.Need-returns
 returns c = looked-none _ _ _ _ _ refl (holds-none _ _ (c .before .before .state-in .ensures) (c .enum-told .given .1))
 
--- src/looking.rt:26:9
 look-number-requires : tie.Need-look-number-requires
 look-number-requires c κs = search needs
 
--- src/looking.rt:28:9
 returns-2 : tie.Need-returns-2
 returns-2 c = let h = holds-state _ _ (c .before .before .before .before .before .state-in .ensures) _ (c .before .before .before .s .given .1) in looked-refused _ _ _ _ _ refl (h .is-state) _ (h .read) _ (c .before .look-number .ensures) (omega arith)
 
--- src/looking.rt:31:9
 row-at-requires : tie.Need-row-at-requires
 row-at-requires c κs = let h = holds-state _ _ (c .before .before .before .before .before .before .state-in .ensures) _ (c .before .before .before .before .s .given .1) in let l = look-facts _ _ _ _ _ refl (h .is-state) _ (h .read) _ (c .before .before .look-number .ensures) (omega arith) in (l .some-slots, l .numbered)
 
--- src/looking.rt:33:19
 add-value : tie.Need-add-value
 add-value c = search needs
 
--- src/looking.rt:34:9
 returns-3 : tie.Need-returns-3
 returns-3 c = let h = holds-state _ _ (c .before .before .before .before .before .before .before .before .before .state-in .ensures) _ (c .before .before .before .before .before .before .before .s .given .1) in looked-medium _ _ _ _ _ refl (h .is-state) _ (h .read) _ (c .before .before .before .before .before .look-number .ensures) (omega arith) _ (c .before .before .row-at .ensures .0) (omega arith)
 
--- src/looking.rt:12:1
 returns-4 : tie.Need-returns-4
 returns-4 c = let h = holds-state _ _ (c .before .before .before .before .before .before .before .before .before .state-in .ensures) _ (c .before .before .before .before .before .before .before .s .given .1) in looked-waiting _ _ _ _ _ refl (h .is-state) _ (h .read) _ (c .before .before .before .before .before .look-number .ensures) (omega arith) _ (c .before .before .row-at .ensures .0) (omega arith)
 

@@ -1,54 +1,42 @@
+-- `boundary::numbers::put_state` meets its contract. Seven stores make a list of seven numbers.
+use borrow.Author.Needs.{needs}
+use lib.ListN.{length-set}
+use mathlib.Core.List.{[], _∷_}
+use mathlib.Core.Path.{ap, _∙_}
+use native.Mathlib.Omega.{arith}
+use Rattle.state.specs.State.{stateOf}
 use Rattle.boundary.proofs.SevenNumbers.{stored-seven}
 use Rattle.boundary.specs.Boundary.{numbersOf}
-use Rattle.state.specs.State.{stateOf}
-use mathlib.Core.List.{[], _∷_}
-use lib.ListN.{length-set}
-use mathlib.Core.Path.{refl, sym, ap, _∙_}
-use native.Mathlib.Omega.{arith}
-use borrow.Author.Needs.{needs}
 use Rattle.boundary.proofs.numbers.put_state.Statement.{statement}
 use Rattle.boundary.proofs.numbers.put_state.Tie as tie
-use Rattle.boundary.proofs.numbers.put_state.Reads as reads
-use Rattle.boundary.proofs.numbers.put_state.Lts as lts
-use Rattle.boundary.proofs.numbers.phase_number.Reads as phase-number-reads
 
--- src/numbers.rt:70:5
 slice-write-s : tie.Need-slice-write-s
 slice-write-s c = search needs
 
--- src/numbers.rt:71:5
 slice-write-s-2 : tie.Need-slice-write-s-2
 slice-write-s-2 c = search needs
 
--- src/numbers.rt:72:5
 slice-write-s-3 : tie.Need-slice-write-s-3
 slice-write-s-3 c = search needs
 
--- src/numbers.rt:73:5
 slice-write-s-4 : tie.Need-slice-write-s-4
 slice-write-s-4 c = search needs
 
--- src/numbers.rt:74:5
 slice-write-s-5 : tie.Need-slice-write-s-5
 slice-write-s-5 c = simp length-set (omega arith)
 
--- src/numbers.rt:75:5
 slice-write-s-6 : tie.Need-slice-write-s-6
 slice-write-s-6 c = simp length-set (omega arith)
 
--- src/numbers.rt:76:12
 phase-number-requires : tie.Need-phase-number-requires
 phase-number-requires c κs = search needs
 
--- src/numbers.rt:76:5
 slice-write-s-7 : tie.Need-slice-write-s-7
 slice-write-s-7 c = simp length-set (omega arith)
 
--- src/numbers.rt:64:1
 same-length : tie.Need-same-length
 same-length c = search needs
 
--- src/numbers.rt:64:1
 returns : tie.Need-returns
 unfolding numbersOf stateOf
 returns c = let s = c .before .before .before .args .state .numbers in stored-seven (c .before .before .before .args .s .now) (omega arith) _ _ _ _ _ _ _ ∙ ap (λ x. s .cells ∷ s .slots ∷ s .h ∷ s .f ∷ s .l ∷ s .o ∷ x ∷ []) (c .phase-number .ensures)

@@ -1,58 +1,42 @@
-use Rattle.boundary.proofs.Unsound.{cut-unsound}
+-- `boundary::storing::keeper_cut` meets its contract. The library's call on the state in the slice, or the state of zeros refused.
+use borrow.Author.Needs.{needs}
+use mathlib.Core.Path.{refl}
 use Rattle.boundary.proofs.Crossing.{crossed, no-state}
 use Rattle.boundary.proofs.SevenNumbers.{holds-state, holds-none}
-use mathlib.Core.Path.{refl, sym, ap, _∙_}
-use borrow.Author.Needs.{needs}
+use Rattle.boundary.proofs.Unsound.{cut-unsound}
 use Rattle.boundary.proofs.storing.keeper_cut.Statement.{statement}
 use Rattle.boundary.proofs.storing.keeper_cut.Tie as tie
-use Rattle.boundary.proofs.storing.keeper_cut.Reads as reads
-use Rattle.boundary.proofs.storing.keeper_cut.Lts as lts
-use Rattle.boundary.proofs.numbers.number_of.Reads as number-of-reads
-use Rattle.boundary.proofs.numbers.put_state.Reads as put-state-reads
-use Rattle.boundary.proofs.numbers.state_in.Reads as state-in-reads
-use Rattle.keeper.proofs.State.cut.Reads as cut-reads
 
--- src/storing.rt:78:26
 state-in-requires : tie.Need-state-in-requires
 state-in-requires c κs = search needs
 
--- src/storing.rt:78:21
 enum-known-s : tie.Need-enum-known-s
 enum-known-s c = search needs
 
--- src/storing.rt:79:9
 enum-told : tie.Need-enum-told
 enum-told c = search needs
 
--- src/storing.rt:79:9
 same-length : tie.Need-same-length
 same-length c = search needs
 
--- src/storing.rt:79:9
 returns : tie.Need-returns
 returns c = no-state _ _ _ _ _ _ _ refl _ _ (holds-none _ _ (c .before .before .state-in .ensures) (c .enum-told .given .1)) refl (cut-unsound _ _ _ _ _ _)
 
--- src/storing.rt:81:9
 cut-requires : tie.Need-cut-requires
 cut-requires c κs = search needs
 
--- src/storing.rt:83:5
 put-state-requires : tie.Need-put-state-requires
 put-state-requires c κs = let h = holds-state _ _ (c .before .before .before .before .before .before .before .before .before .state-in .ensures) _ (c .before .before .before .before .before .before .before .s .given .1) in h .is-seven
 
--- src/storing.rt:85:5
 number-of-requires : tie.Need-number-of-requires
 number-of-requires c κs = search needs
 
--- src/storing.rt:74:1
 same-length-2 : tie.Need-same-length-2
 same-length-2 c = search needs
 
--- src/storing.rt:74:1
 same-length-3 : tie.Need-same-length-3
 same-length-3 c = search needs
 
--- src/storing.rt:74:1
 returns-2 : tie.Need-returns-2
 returns-2 c = let h = holds-state _ _ (c .before .before .before .before .before .before .before .before .before .before .before .before .before .state-in .ensures) _ (c .before .before .before .before .before .before .before .before .before .before .before .s .given .1) in crossed _ _ _ _ _ _ _ refl _ _ (h .is-state) _ (c .before .before .before .before .before .before .before .before .cut .result .state) _ _ _ _ _ _ _ _ _ (h .read) (c .before .before .before .before .before .before .before .before .cut .ensures) (c .number-of .ensures) refl (c .before .before .before .put-state .ensures)
 

@@ -1,83 +1,61 @@
-use Rattle.boundary.proofs.Kept.{force-keeps, refused-crossed}
-use Rattle.boundary.proofs.Unsound.{force-unsound}
-use Rattle.boundary.proofs.Crossing.{crossed, no-state}
-use Rattle.boundary.proofs.SevenNumbers.{holds-state, holds-none}
-use mathlib.Core.Path.{refl, sym, ap, _∙_}
+-- `boundary::storing::keeper_force` meets its contract. The library's call on the state in the slice, or the state of zeros refused.
 use borrow.Author.Needs.{needs}
+use mathlib.Core.Path.{refl}
+use Rattle.boundary.proofs.Crossing.{crossed, no-state}
+use Rattle.boundary.proofs.Kept.{force-keeps, refused-crossed}
+use Rattle.boundary.proofs.SevenNumbers.{holds-state, holds-none}
+use Rattle.boundary.proofs.Unsound.{force-unsound}
 use Rattle.boundary.proofs.storing.keeper_force.Statement.{statement}
 use Rattle.boundary.proofs.storing.keeper_force.Tie as tie
-use Rattle.boundary.proofs.storing.keeper_force.Reads as reads
-use Rattle.boundary.proofs.storing.keeper_force.Lts as lts
-use Rattle.boundary.proofs.numbers.number_of.Reads as number-of-reads
-use Rattle.boundary.proofs.numbers.put_state.Reads as put-state-reads
-use Rattle.boundary.proofs.numbers.state_in.Reads as state-in-reads
-use Rattle.boundary.proofs.numbers.value_of.Reads as value-of-reads
-use Rattle.keeper.proofs.State.force.Reads as force-reads
 
--- src/storing.rt:34:26
 state-in-requires : tie.Need-state-in-requires
 state-in-requires c κs = search needs
 
--- src/storing.rt:34:21
 enum-known-s : tie.Need-enum-known-s
 enum-known-s c = search needs
 
--- src/storing.rt:35:9
 enum-told : tie.Need-enum-told
 enum-told c = search needs
 
--- src/storing.rt:36:9
 same-length : tie.Need-same-length
 same-length c = search needs
 
--- src/storing.rt:36:9
 returns : tie.Need-returns
 returns c = no-state _ _ _ _ _ _ _ refl _ _ (holds-none _ _ (c .before .before .state-in .ensures) (c .enum-told .given .1)) refl (force-unsound _ _ _ _ _)
 
--- src/storing.rt:38:9
 force-requires : tie.Need-force-requires
 force-requires c κs = search needs
 
--- src/storing.rt:40:28
 enum-known-answer : tie.Need-enum-known-answer
 enum-known-answer c = search needs
 
--- src/storing.rt:42:9
 same-length-2 : tie.Need-same-length-2
 same-length-2 c = search needs
 
--- src/storing.rt:42:9
 same-length-3 : tie.Need-same-length-3
 same-length-3 c = search needs
 
--- src/storing.rt:42:9
 returns-2 : tie.Need-returns-2
 returns-2 c = let h = holds-state _ _ (c .before .before .before .before .before .before .before .before .before .before .state-in .ensures) _ (c .before .before .before .before .before .before .before .before .s .given .1) in refused-crossed _ _ _ _ _ _ _ _ (h .is-state) _ (c .before .before .before .before .before .force .result .state) (h .read) _ _ _ _ _ _ _ (c .before .answer .given .1) refl force-keeps (c .before .before .before .before .before .force .ensures)
 
 enum-told-2 : tie.Need-enum-told-2
 enum-told-2 c = search needs
 
--- src/storing.rt:45:5
 put-state-requires : tie.Need-put-state-requires
 put-state-requires c κs = let h = holds-state _ _ (c .before .before .before .before .before .before .before .before .before .before .before .state-in .ensures) _ (c .before .before .before .before .before .before .before .before .before .s .given .1) in h .is-seven
 
--- src/storing.rt:46:14
 value-of-requires : tie.Need-value-of-requires
 value-of-requires c κs = search needs
 
--- src/storing.rt:47:5
 number-of-requires : tie.Need-number-of-requires
 number-of-requires c κs = search needs
 
--- src/storing.rt:25:1
 same-length-4 : tie.Need-same-length-4
 same-length-4 c = search needs
 
--- src/storing.rt:25:1
 same-length-5 : tie.Need-same-length-5
 same-length-5 c = search needs
 
--- src/storing.rt:25:1
 returns-3 : tie.Need-returns-3
 returns-3 c = let h = holds-state _ _ (c .before .before .before .before .before .before .before .before .before .before .before .before .before .before .before .before .state-in .ensures) _ (c .before .before .before .before .before .before .before .before .before .before .before .before .before .before .s .given .1) in crossed _ _ _ _ _ _ _ refl _ _ (h .is-state) _ (c .before .before .before .before .before .before .before .before .before .before .before .force .result .state) _ _ _ _ _ _ _ _ _ (h .read) (c .before .before .before .before .before .before .before .before .before .before .before .force .ensures) (c .number-of .ensures) (c .before .value-of .ensures) (c .before .before .before .before .put-state .ensures)
 

@@ -1,67 +1,48 @@
-use Rattle.boundary.proofs.Unsound.{back-unsound}
+-- `boundary::storing::keeper_write_back` meets its contract. The library's call on the state in the slice, or the state of zeros refused.
+use borrow.Author.Needs.{needs}
+use mathlib.Core.Path.{refl}
 use Rattle.boundary.proofs.Crossing.{crossed, no-state}
 use Rattle.boundary.proofs.SevenNumbers.{holds-state, holds-none}
-use mathlib.Core.Path.{refl, sym, ap, _∙_}
-use borrow.Author.Needs.{needs}
+use Rattle.boundary.proofs.Unsound.{back-unsound}
 use Rattle.boundary.proofs.storing.keeper_write_back.Statement.{statement}
 use Rattle.boundary.proofs.storing.keeper_write_back.Tie as tie
-use Rattle.boundary.proofs.storing.keeper_write_back.Reads as reads
-use Rattle.boundary.proofs.storing.keeper_write_back.Lts as lts
-use Rattle.boundary.proofs.numbers.back_number.Reads as back-number-reads
-use Rattle.boundary.proofs.numbers.back_value.Reads as back-value-reads
-use Rattle.boundary.proofs.numbers.put_state.Reads as put-state-reads
-use Rattle.boundary.proofs.numbers.state_in.Reads as state-in-reads
-use Rattle.keeper.proofs.State.write_back.Reads as write-back-reads
 
--- src/storing.rt:62:26
 state-in-requires : tie.Need-state-in-requires
 state-in-requires c κs = search needs
 
--- src/storing.rt:62:21
 enum-known-s : tie.Need-enum-known-s
 enum-known-s c = search needs
 
--- src/storing.rt:63:9
 enum-told : tie.Need-enum-told
 enum-told c = search needs
 
--- src/storing.rt:64:9
 same-length : tie.Need-same-length
 same-length c = search needs
 
--- src/storing.rt:64:9
 returns : tie.Need-returns
 returns c = no-state _ _ _ _ _ _ _ refl _ _ (holds-none _ _ (c .before .before .state-in .ensures) (c .enum-told .given .1)) refl (back-unsound _ _ _ _ _ _)
 
--- src/storing.rt:66:9
 write-back-requires : tie.Need-write-back-requires
 write-back-requires c κs = search needs
 
--- src/storing.rt:68:5
 put-state-requires : tie.Need-put-state-requires
 put-state-requires c κs = let h = holds-state _ _ (c .before .before .before .before .before .before .before .before .before .before .before .before .state-in .ensures) _ (c .before .before .before .before .before .before .before .before .before .before .s .given .1) in h .is-seven
 
--- src/storing.rt:70:14
 back-value-requires : tie.Need-back-value-requires
 back-value-requires c κs = search needs
 
--- src/storing.rt:71:5
 back-number-requires : tie.Need-back-number-requires
 back-number-requires c κs = search needs
 
--- src/storing.rt:50:1
 same-length-2 : tie.Need-same-length-2
 same-length-2 c = search needs
 
--- src/storing.rt:50:1
 same-length-3 : tie.Need-same-length-3
 same-length-3 c = search needs
 
--- src/storing.rt:50:1
 same-length-4 : tie.Need-same-length-4
 same-length-4 c = search needs
 
--- src/storing.rt:50:1
 returns-2 : tie.Need-returns-2
 returns-2 c = let h = holds-state _ _ (c .before .before .before .before .before .before .before .before .before .before .before .before .before .before .before .before .before .state-in .ensures) _ (c .before .before .before .before .before .before .before .before .before .before .before .before .before .before .before .s .given .1) in crossed _ _ _ _ _ _ _ refl _ _ (h .is-state) _ (c .before .before .before .before .before .before .before .before .before .before .before .write-back .result .state) _ _ _ _ _ _ _ _ _ (h .read) (c .before .before .before .before .before .before .before .before .before .before .before .write-back .ensures) (c .back-number .ensures) (c .before .back-value .ensures) (c .before .before .before .before .put-state .ensures)
 

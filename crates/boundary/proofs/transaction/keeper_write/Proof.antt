@@ -1,70 +1,51 @@
-use Rattle.boundary.proofs.Unsound.{write-unsound}
+-- `boundary::transaction::keeper_write` meets its contract. The library's call on the state in the slice, or the state of zeros refused.
+use borrow.Author.Needs.{needs}
+use mathlib.Core.Path.{refl}
 use Rattle.boundary.proofs.Crossing.{crossed, no-state}
 use Rattle.boundary.proofs.SevenNumbers.{holds-state, holds-none}
-use mathlib.Core.Path.{refl, sym, ap, _∙_}
-use borrow.Author.Needs.{needs}
+use Rattle.boundary.proofs.Unsound.{write-unsound}
 use Rattle.boundary.proofs.transaction.keeper_write.Statement.{statement}
 use Rattle.boundary.proofs.transaction.keeper_write.Tie as tie
-use Rattle.boundary.proofs.transaction.keeper_write.Reads as reads
-use Rattle.boundary.proofs.transaction.keeper_write.Lts as lts
-use Rattle.boundary.proofs.numbers.number_of.Reads as number-of-reads
-use Rattle.boundary.proofs.numbers.put_state.Reads as put-state-reads
-use Rattle.boundary.proofs.numbers.state_in.Reads as state-in-reads
-use Rattle.keeper.proofs.State.write.Reads as write-reads
 
--- src/transaction.rt:62:26
 state-in-requires : tie.Need-state-in-requires
 state-in-requires c κs = search needs
 
--- src/transaction.rt:62:21
 enum-known-s : tie.Need-enum-known-s
 enum-known-s c = search needs
 
--- src/transaction.rt:63:9
 enum-told : tie.Need-enum-told
 enum-told c = search needs
 
--- src/transaction.rt:63:9
 same-length : tie.Need-same-length
 same-length c = search needs
 
--- src/transaction.rt:63:9
 returns : tie.Need-returns
 returns c = no-state _ _ _ _ _ _ _ refl _ _ (holds-none _ _ (c .before .before .state-in .ensures) (c .enum-told .given .1)) refl (write-unsound _ _ _ _ _ _ _)
 
--- src/transaction.rt:65:9
 write-requires : tie.Need-write-requires
 write-requires c κs = search needs
 
--- src/transaction.rt:67:5
 put-state-requires : tie.Need-put-state-requires
 put-state-requires c κs = let h = holds-state _ _ (c .before .before .before .before .before .before .before .before .before .before .before .before .before .before .before .before .before .before .state-in .ensures) _ (c .before .before .before .before .before .before .before .before .before .before .before .before .before .before .before .before .s .given .1) in h .is-seven
 
--- src/transaction.rt:69:5
 number-of-requires : tie.Need-number-of-requires
 number-of-requires c κs = search needs
 
--- src/transaction.rt:50:1
 same-length-2 : tie.Need-same-length-2
 same-length-2 c = search needs
 
--- src/transaction.rt:50:1
 same-length-3 : tie.Need-same-length-3
 same-length-3 c = search needs
 
--- src/transaction.rt:50:1
 same-length-4 : tie.Need-same-length-4
 same-length-4 c = search needs
 
--- src/transaction.rt:50:1
 same-length-5 : tie.Need-same-length-5
 same-length-5 c = search needs
 
--- src/transaction.rt:50:1
 same-length-6 : tie.Need-same-length-6
 same-length-6 c = search needs
 
--- src/transaction.rt:50:1
 returns-2 : tie.Need-returns-2
 returns-2 c = let h = holds-state _ _ (c .before .before .before .before .before .before .before .before .before .before .before .before .before .before .before .before .before .before .before .before .before .before .state-in .ensures) _ (c .before .before .before .before .before .before .before .before .before .before .before .before .before .before .before .before .before .before .before .before .s .given .1) in crossed _ _ _ _ _ _ _ refl _ _ (h .is-state) _ (c .before .before .before .before .before .before .before .before .before .before .before .before .before .before .write .result .state) _ _ _ _ _ _ _ _ _ (h .read) (c .before .before .before .before .before .before .before .before .before .before .before .before .before .before .write .ensures) (c .number-of .ensures) refl (c .before .before .before .put-state .ensures)
 

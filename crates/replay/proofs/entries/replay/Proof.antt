@@ -1,28 +1,37 @@
--- Entries h + 1 to e replayed are replayFrom. The invariant: replaying what remains, n + 1 to e, makes of the table what all of it makes of the first.
+-- `replay::entries::replay` meets its contract. Entries h + 1 to e replayed are replayFrom. The invariant: replaying what remains, n + 1 to e, makes of the table what all of it makes of the first, and the place is entry n + 1's.
+use Prim.Native.Nat.{_+_, _-_, _*_, _≤_}
 use borrow.Author.Needs.{needs}
-use Prim.Native.Nat.{_-_, _≤_}
-use mathlib.Core.Path.{_≡_, _∙_}
 use lib.ListN.{length}
+use mathlib.Core.Path.{_≡_, refl, _∙_}
+use native.Mathlib.Omega.{arith}
 use Rattle.journal.specs.Entries.{entryIn}
-use Rattle.replay.specs.Replay.{replayFrom}
+use Rattle.scope.specs.Keeper.{rowAt}
 use Rattle.replay.proofs.Turns.{replay-again, replay-done}
+use Rattle.replay.specs.Replay.{replayFrom}
 use Rattle.replay.proofs.entries.replay.Statement.{statement}
 use Rattle.replay.proofs.entries.replay.Tie as tie
 
 abbrev Inv-loop : tie.InvT-loop
-Inv-loop medium slots cells h e current₀ n₀ s₀ current n s =
+Inv-loop medium slots cells h e current₀ n₀ s₀ at₀ current n s at =
     (n ≤ e)
     × ((length current ≡ cells)
-    × (replayFrom (entryIn medium 32 slots cells) (e - h) h h current₀ ≡ replayFrom (entryIn medium 32 slots cells) (e - n) s n current))
+    × ((replayFrom (entryIn medium 32 slots cells) (e - h) h h current₀ ≡ replayFrom (entryIn medium 32 slots cells) (e - n) s n current)
+    × ((at ≡ 32 + rowAt slots (n + 1)) × (at ≤ 32 * slots))))
 
 abbrev μ-loop : tie.MeasureT-loop
-μ-loop medium slots cells h e current₀ n₀ s₀ current n s = e - n
+μ-loop medium slots cells h e current₀ n₀ s₀ at₀ current n s at = e - n
+
+first-row-requires : tie.Need-first-row-requires Inv-loop μ-loop
+first-row-requires c κs = search needs
 
 loop-holds : tie.Need-loop-holds Inv-loop μ-loop
-loop-holds c = search needs
+loop-holds c = (omega arith, (omega arith, (refl, c .first-row .ensures)))
 
 replay-entry-requires : tie.Need-replay-entry-requires Inv-loop μ-loop
 replay-entry-requires c κs = search needs
+
+next-row-requires : tie.Need-next-row-requires Inv-loop μ-loop
+next-row-requires c κs = search needs
 
 add-n : tie.Need-add-n Inv-loop μ-loop
 add-n c = search needs
@@ -31,15 +40,7 @@ loop-less : tie.Need-loop-less Inv-loop μ-loop
 loop-less c = search needs
 
 loop-again : tie.Need-loop-again Inv-loop μ-loop
-loop-again c =
-    let r = c .before .before in
-    let l = r .before .before .before in (
-      search needs,
-      (
-        r .replay-entry .kept .1 .1 .1 .1 .1 .0 ∙ l .loop .inv .1 .0,
-        replay-again _ _ _ _ _ _ (l .loop .inv .1 .1) (search needs) _ _ (r .replay-entry .ensures .0) (r .replay-entry .ensures .1),
-      ),
-    )
+loop-again c = (search needs, (c .before .before .before .replay-entry .kept .1 .1 .1 .1 .1 .1 .0 ∙ (c .before .before .before .before .before .before .loop .inv .1 .0), (replay-again _ _ _ _ _ _ (c .before .before .before .before .before .before .loop .inv .1 .1 .0) (search needs) _ _ (c .before .before .before .replay-entry .ensures .0) (c .before .before .before .replay-entry .ensures .1), c .next-row .ensures _ (omega arith) (c .before .before .before .before .before .before .loop .inv .1 .1 .1 .0))))
 
 undo-requires : tie.Need-undo-requires Inv-loop μ-loop
 undo-requires c κs = search needs
@@ -48,8 +49,7 @@ same-length : tie.Need-same-length Inv-loop μ-loop
 same-length c = search needs
 
 returns : tie.Need-returns Inv-loop μ-loop
-returns c =
-    replay-done _ _ _ _ _ _ (c .before .before .before .before .before .loop .inv .1 .1) (search needs) _ (c .before .before .undo .ensures)
+returns c = replay-done _ _ _ _ _ _ (c .before .before .before .before .before .loop .inv .1 .1 .0) (search needs) _ (c .before .before .undo .ensures)
 
 pub replay-spec : {M : Type 1} → statement M
 replay-spec =
@@ -57,8 +57,10 @@ replay-spec =
     (tie.spec
     Inv-loop
     μ-loop
+    first-row-requires
     loop-holds
     replay-entry-requires
+    next-row-requires
     add-n
     loop-less
     loop-again

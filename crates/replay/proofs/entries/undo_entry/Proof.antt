@@ -1,6 +1,6 @@
 -- One entry undone is undoEntry of what its row reads as: by the kind of entry. An update that reads has its cell below N, so the store is inside.
 use Rattle.journal.proofs.Meanings.{is-nothing, is-update, entry-below}
-use Rattle.replay.proofs.Turns.{undo-nothing, undo-update, undo-end}
+use Rattle.replay.proofs.Turns.{undo-end, undo-nothing, undo-update}
 use native.Mathlib.Omega.{arith}
 use borrow.Author.Needs.{needs}
 use Rattle.replay.proofs.entries.undo_entry.Statement.{statement}

@@ -1,39 +1,46 @@
--- The scan gives the last entry of the journal. The invariant: the rows that remain, from entry n + 1 on, have the same last entry, and M is not passed.
+-- `replay::scan::scan` meets its contract. The scan gives the last entry of the journal. The invariant: the rows that remain, from entry n + 1 on, have the same last entry, M is not passed, and the place is entry n + 1's.
+use Prim.Native.Nat.{_+_, _*_, _<_, _≤_}
 use borrow.Author.Needs.{needs}
-use Prim.Native.Nat.{_+_, _<_}
 use mathlib.Core.Path.{_≡_}
 use native.Mathlib.Omega.{arith}
+use Rattle.journal.proofs.RowPlaces.{number-from, read-from}
+use Rattle.scope.specs.Keeper.{rowAt}
 use Rattle.scope.specs.Recovery.{rowsOf, entriesFrom, journal}
-use Rattle.replay.specs.Replay.{lastOf}
 use Rattle.journal.proofs.Meanings.{is-nothing, is-some}
 use Rattle.replay.proofs.Turns.{most-fits, scan-starts, scan-done, scan-stop, scan-bad, scan-again}
+use Rattle.replay.specs.Replay.{lastOf}
 use Rattle.replay.proofs.scan.scan.Statement.{statement}
 use Rattle.replay.proofs.scan.scan.Tie as tie
 
 abbrev Inv-loop : tie.InvT-loop
-Inv-loop medium slots cells h n₀ left₀ n left =
-    (n + left < 4294967296) × (lastOf h (journal cells slots h medium) ≡ lastOf n (entriesFrom (rowsOf slots medium) cells left n))
+Inv-loop medium slots cells h n₀ left₀ at₀ n left at =
+    (n + left < 4294967296)
+    × ((lastOf h (journal cells slots h medium) ≡ lastOf n (entriesFrom (rowsOf slots medium) cells left n))
+    × ((at ≡ 32 + rowAt slots (n + 1)) × (at ≤ 32 * slots)))
 
 abbrev μ-loop : tie.MeasureT-loop
-μ-loop medium slots cells h n₀ left₀ n left = left
+μ-loop medium slots cells h n₀ left₀ at₀ n left at = left
 
 at-most-requires : tie.Need-at-most-requires Inv-loop μ-loop
 at-most-requires c κs = search needs
 
+first-row-requires : tie.Need-first-row-requires Inv-loop μ-loop
+first-row-requires c κs = search needs
+
 loop-holds : tie.Need-loop-holds Inv-loop μ-loop
-loop-holds c = (omega (arith, most-fits (c .before .before .args .slots) (c .before .before .args .h) (omega arith)), scan-starts _ _ _ _ _ (c .at-most .ensures))
+loop-holds c = (omega (arith, most-fits (c .before .before .before .args .slots) (c .before .before .before .args .h) (omega arith)), (scan-starts _ _ _ _ _ (c .before .at-most .ensures), c .first-row .ensures))
 
 add-next : tie.Need-add-next Inv-loop μ-loop
 add-next c = search needs
 
-number-at-requires : tie.Need-number-at-requires Inv-loop μ-loop
-number-at-requires c κs = search needs
+get4-requires : tie.Need-get4-requires Inv-loop μ-loop
+get4-requires c κs = search needs
 
 returns : tie.Need-returns Inv-loop μ-loop
-returns c = scan-stop _ _ _ _ _ _ (c .before .before .before .loop .inv .1) (omega arith) (omega arith)
+returns c = scan-stop _ _ _ _ _ _ (c .before .before .before .loop .inv .1 .0) (omega arith) (λ z. omega (arith, number-from _ _ _ _ (c .before .before .before .loop .inv .1 .1 .0) _ (c .before .get4 .ensures)))
 
-entry-at-requires : tie.Need-entry-at-requires Inv-loop μ-loop
-entry-at-requires c κs = search needs
+entry-from-requires : tie.Need-entry-from-requires Inv-loop μ-loop
+entry-from-requires c κs = search needs
 
 enum-told : tie.Need-enum-told Inv-loop μ-loop
 enum-told c = search needs
@@ -42,19 +49,22 @@ enum-told-2 : tie.Need-enum-told-2 Inv-loop μ-loop
 enum-told-2 c = search needs
 
 returns-2 : tie.Need-returns-2 Inv-loop μ-loop
-returns-2 c = scan-bad _ _ _ _ _ _ (c .before .before .before .before .before .before .loop .inv .1) (omega arith) (omega arith) (is-nothing _ _ (c .before .before .entry-at .ensures) (c .enum-told2 .given .1))
+returns-2 c = scan-bad _ _ _ _ _ _ (c .before .before .before .before .before .before .loop .inv .1 .0) (omega arith) (omega (arith, number-from _ _ _ _ (c .before .before .before .before .before .before .loop .inv .1 .1 .0) _ (c .before .before .before .before .get4 .ensures))) (is-nothing _ _ (read-from _ _ _ _ (c .before .before .before .before .before .before .loop .inv .1 .1 .0) _ _ (c .before .before .entry-from .ensures)) (c .enum-told2 .given .1))
 
 sub-left : tie.Need-sub-left Inv-loop μ-loop
 sub-left c = search needs
+
+next-row-requires : tie.Need-next-row-requires Inv-loop μ-loop
+next-row-requires c κs = search needs
 
 loop-less : tie.Need-loop-less Inv-loop μ-loop
 loop-less c = search needs
 
 loop-again : tie.Need-loop-again Inv-loop μ-loop
-loop-again c = (omega arith, scan-again _ _ _ _ _ _ (c .before .before .before .before .before .before .loop .inv .1) (omega arith) (omega arith) _ (is-some _ _ (c .before .before .entry-at .ensures) _ (c .enum-told .given .1)))
+loop-again c = (omega arith, (scan-again _ _ _ _ _ _ (c .before .before .before .before .before .before .before .loop .inv .1 .0) (omega arith) (omega (arith, number-from _ _ _ _ (c .before .before .before .before .before .before .before .loop .inv .1 .1 .0) _ (c .before .before .before .before .before .get4 .ensures))) _ (is-some _ _ (read-from _ _ _ _ (c .before .before .before .before .before .before .before .loop .inv .1 .1 .0) _ _ (c .before .before .before .entry-from .ensures)) _ (c .before .enum-told .given .1)), c .next-row .ensures _ (omega arith) (c .before .before .before .before .before .before .before .loop .inv .1 .1 .0)))
 
 returns-3 : tie.Need-returns-3 Inv-loop μ-loop
-returns-3 c = scan-done _ _ _ _ _ _ (c .before .loop .inv .1) (omega arith)
+returns-3 c = scan-done _ _ _ _ _ _ (c .before .loop .inv .1 .0) (omega arith)
 
 pub scan-spec : {M : Type 1} → statement M
 scan-spec =
@@ -63,15 +73,17 @@ scan-spec =
     Inv-loop
     μ-loop
     at-most-requires
+    first-row-requires
     loop-holds
     add-next
-    number-at-requires
+    get4-requires
     returns
-    entry-at-requires
+    entry-from-requires
     enum-told
     enum-told-2
     returns-2
     sub-left
+    next-row-requires
     loop-less
     loop-again
     returns-3)

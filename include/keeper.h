@@ -1,0 +1,141 @@
+/* The keeper: a table of cells on a medium that survives power loss, with a journal beside it.
+ *
+ * Every function here is proved to be the call of document 01 of the same name, for every input: what it answers, the state
+ * that it leaves and each byte of what it is lent. None of them allocates, keeps a pointer, reads a clock or fails to return.
+ *
+ * What the host lends
+ *   A buffer is a pointer and a length in elements. The pointer is aligned for its element, the memory is the host's, and a
+ *   buffer that a call may write overlaps no other. For N cells (1 to 1,024) and C journal rows (4 to 1,024):
+ *     medium    32 + 32C + 8N bytes: an image of what is stored
+ *     current   N numbers of 64 bits: each cell's value now
+ *     first     N numbers of 32 bits \ which entries changed a cell since it was stored;
+ *     last      N numbers of 32 bits /  the keeper writes them, the host only keeps them
+ *     waiting   32C bytes: entries made and not yet stored
+ *   All but the medium is lost at power loss. A length that is not as N and C say is refused with 1.
+ *
+ * The state
+ *   Seven numbers of 32 bits, that the host lends to each call and does not change:
+ *     0 N   1 C   2 h, the last entry dropped   3 f, the last stored   4 l, the last made
+ *     5 o, the last before the open transaction   6 the phase: 0 idle, 1 run, 2 recovering
+ *   Recovery start writes the first. Another length than seven, another number for a phase, or numbers that are no sound state
+ *   are refused with 1.
+ *
+ * What a call answers
+ *   0 when it is done, else the number of the refusal, listed below in the order in which a call tests them. A refused call
+ *   writes nothing but the value, which is then 0; recovery start alone writes seven zeros, which is no sound state.
+ *     1 the state is not sound, or a length or the head is out of rule     7 a row isn't the entry that the call needs
+ *     2 a row with the expected number doesn't read as an entry            8 the cell's last change isn't stored in the journal
+ *     3 no transaction is open                                             9 the journal can't be cut there
+ *     4 no such cell                                                      10 recovering; recovery step: not recovering
+ *     5 no room in the journal                                            11 no such entry
+ *     6 the entry numbers are used up
+ *
+ * Rules of use
+ *   1. After power loss, and after format: recovery start, then recovery step until the phase is idle.
+ *   2. A call changes the image `medium` in one place at most (format: everywhere): a row, a cell or the head. The host makes that
+ *      change durable on the real medium before its next call, entirely or not at all, and one change at a time.
+ *   3. A transaction is durable once force has answered its commit's number and that store is durable.
+ *   4. One call at a time: the calls share the state and the buffers.
+ */
+#ifndef KEEPER_H
+#define KEEPER_H
+
+#include <stddef.h>
+#include <stdint.h>
+
+#ifdef __cplusplus
+extern "C" {
+#endif
+
+#define KEEPER_STATE 7
+
+#define KEEPER_IDLE 0u
+#define KEEPER_RUN 1u
+#define KEEPER_RECOVERING 2u
+
+/* The values of a recovery step that stored no cell. */
+#define KEEPER_STEP_HEAD ((uint64_t)1 << 32)
+#define KEEPER_STEP_CLEAN (((uint64_t)1 << 32) + 1)
+
+/* Format: an empty table of `cells` cells and an empty journal of `slots` rows. Recovery start gives the first state.
+ * Refuses 1: cells, slots or the length out of rule. Stores the whole medium. Costs the medium's bytes, once. */
+uint32_t keeper_format(uint8_t *medium, size_t medium_len, uint32_t cells, uint32_t slots);
+
+/* Recovery start: reads the journal and works out the cells' values, undoing what has no commit; waiting rows keep their bytes.
+ * Refuses 1, 2; then `state` becomes seven zeros (with another length than seven: 1, and nothing is written). Stores nothing.
+ * Costs the stored entries twice and the cells once; an entry of an aborted or unfinished transaction once more. */
+uint32_t keeper_recovery_start(const uint8_t *medium, size_t medium_len, uint64_t *current, size_t current_len,
+                               uint32_t *first, size_t first_len, uint32_t *last, size_t last_len,
+                               const uint8_t *waiting, size_t waiting_len, uint32_t *state, size_t state_len);
+
+/* Recovery step: *value is the cell that it stored, KEEPER_STEP_HEAD, or KEEPER_STEP_CLEAN. After the last two the phase is idle.
+ * Refuses 1, 10. Stores the lowest cell whose stored value differs, else the head, else nothing. Costs the cells up to that one. */
+uint32_t keeper_recovery_step(uint32_t *state, size_t state_len, uint8_t *medium, size_t medium_len,
+                              const uint64_t *current, size_t current_len, uint64_t *value);
+
+/* Begin: opens a transaction; one that is open is aborted first.
+ * Refuses 1, 10, 7, 5, 6. Stores nothing. In idle it touches no row; in run it costs what abort does. */
+uint32_t keeper_begin(uint32_t *state, size_t state_len, uint64_t *current, size_t current_len,
+                      uint32_t *first, size_t first_len, uint32_t *last, size_t last_len,
+                      uint8_t *waiting, size_t waiting_len);
+
+/* Read: *value is the cell's value now. Refuses 1, 10, 3, 4. Stores nothing. Costs one cell. */
+uint32_t keeper_read(uint32_t *state, size_t state_len, uint32_t cell, const uint64_t *current, size_t current_len,
+                     uint64_t *value);
+
+/* Write: the cell gets a new value in the open transaction. Refuses 1, 10, 3, 4, 5, 6. Stores nothing. Costs one row and one cell. */
+uint32_t keeper_write(uint32_t *state, size_t state_len, uint32_t cell, uint64_t new_value,
+                      uint64_t *current, size_t current_len, uint32_t *first, size_t first_len,
+                      uint32_t *last, size_t last_len, uint8_t *waiting, size_t waiting_len);
+
+/* Commit: ends the open transaction; *value is its entry's number (rule 3). Refuses 1, 10, 3, never for room.
+ * Stores nothing. Costs one row. */
+uint32_t keeper_commit(uint32_t *state, size_t state_len, uint8_t *waiting, size_t waiting_len, uint64_t *value);
+
+/* Abort: takes the open transaction back; in idle it does nothing. Refuses 1, 10, 7, never for room. Stores nothing.
+ * Costs the transaction's rows twice: judged, then restored. */
+uint32_t keeper_abort(uint32_t *state, size_t state_len, uint64_t *current, size_t current_len,
+                      uint32_t *first, size_t first_len, uint32_t *last, size_t last_len,
+                      uint8_t *waiting, size_t waiting_len);
+
+/* Force: *value is the number of the entry that it stored, the lowest that is not, or 0 where all are stored.
+ * Refuses 1, 10, 7. Stores that entry's row or nothing. Costs one row. */
+uint32_t keeper_force(uint32_t *state, size_t state_len, uint8_t *medium, size_t medium_len,
+                      const uint8_t *waiting, size_t waiting_len, uint64_t *value);
+
+/* Write-back: *value is 1 where the cell was stored, 0 where it had not changed. Refuses 1, 10, 4, 8. Stores that cell or nothing.
+ * Costs one cell. */
+uint32_t keeper_write_back(uint32_t *state, size_t state_len, uint32_t cell, uint8_t *medium, size_t medium_len,
+                           const uint64_t *current, size_t current_len, uint32_t *first, size_t first_len,
+                           const uint32_t *last, size_t last_len, uint64_t *value);
+
+/* Cut: drops the entries up to p, so that their rows are free. p is the number of a stored commit or abort, or h itself, and no cell
+ * has a change up to p that is not written back. Refuses 1, 10, 9, 7, 9. Stores the head. Costs one row and the cells' `first`. */
+uint32_t keeper_cut(uint32_t *state, size_t state_len, uint32_t p, uint8_t *medium, size_t medium_len,
+                    const uint32_t *first, size_t first_len);
+
+/* Look: *value is where entry n's 32 bytes begin, an offset into `medium` when n <= f (state[3]), else into `waiting`; nothing is
+ * copied. Refuses 1, 10, 11. Stores nothing. Reads no row. */
+uint32_t keeper_look(const uint32_t *state, size_t state_len, uint32_t n, const uint8_t *medium, size_t medium_len,
+                     const uint8_t *waiting, size_t waiting_len, uint64_t *value);
+
+/* Table view: *value is where the table begins in `medium`: 8 bytes a cell up to the end, part number (4), release major (2) and
+ * minor (2), little-endian. Refuses 1: the head or the length out of rule. Stores nothing. Costs the head's bytes. */
+uint32_t keeper_table_view(const uint8_t *medium, size_t medium_len, uint64_t *value);
+
+/* Read row: what a row's first 32 bytes read as, as entry `number` of a table of `cells` cells: 0 nothing, 1 an update, 2 a commit,
+ * 3 an abort. The four fields become cell, old, new, 0 of an update, else zeros. Of another count of fields nothing is written and the
+ * answer is 0. */
+uint32_t keeper_read_row(const uint8_t *row, size_t row_len, uint32_t cells, uint32_t number,
+                         uint64_t *fields, size_t fields_len);
+
+/* Write row: the first 32 bytes become entry `number`. Answers 0, or 1 and writes nothing: a shorter row, number 0, a kind that is
+ * none, or a commit or abort whose cell, old or new is not 0. */
+uint32_t keeper_write_row(uint8_t *row, size_t row_len, uint32_t number, uint32_t kind, uint32_t cell,
+                          uint64_t old_value, uint64_t new_value);
+
+#ifdef __cplusplus
+}
+#endif
+
+#endif
