@@ -16,7 +16,7 @@ use Rattle.refusal.specs.Lent.{lentTo}
 use Rattle.keeper.proofs.Recovering.{head-fits}
 use Rattle.keeper.specs.Answers.{handed, stateless, leaves}
 use Rattle.keeper.specs.declared.State.{State}
-use Rattle.listing_text.specs.Text.{line, refusedKey, tableText}
+use Rattle.text.specs.Text.{line, refusedKey, tableText}
 use Rattle.listing_text.specs.Listing.{isCell, steps, started, recovered, orRefused, listing, Desk}
 
 -- one step of those that remain
