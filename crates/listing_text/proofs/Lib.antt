@@ -1,4 +1,1 @@
--- text in a buffer
-pub mod Writing
--- recovery to its end
 pub mod Recovered

@@ -4,9 +4,9 @@ use mathlib.Core.Path.{_≡_, refl, sym, ap, _∙_}
 use mathlib.Core.Bool.{Bool, true, false}
 use mathlib.Core.List.{List, [], _∷_}
 use native.Mathlib.Omega.{arith}
-use lib.ListN.{length, replicate, take, drop}
+use lib.ListN.{replicate, take}
 use Rattle.scope.specs.Bytes.{pick, numberAt}
-use Rattle.scope.specs.Keeper.{Keeper, Answer, Outcome, done, refused, headOk, withState}
+use Rattle.scope.specs.Keeper.{Keeper, Answer, done, refused, headOk}
 use Rattle.scope.specs.Recovery.{tableOf}
 use Rattle.scope.specs.Refusals.{RecoveryStep, refusal, tests}
 use Rattle.scope.specs.Calls.{recoveryStart, recoveryStep, unlessStart, act}
@@ -16,7 +16,7 @@ use Rattle.refusal.specs.Lent.{lentTo}
 use Rattle.keeper.proofs.Recovering.{head-fits}
 use Rattle.keeper.specs.Answers.{handed, stateless, leaves}
 use Rattle.keeper.specs.declared.State.{State}
-use Rattle.listing_text.specs.Text.{line, refusedKey, tableText}
+use Rattle.text.specs.Text.{line, refusedKey, tableText}
 use Rattle.listing_text.specs.Listing.{isCell, steps, started, recovered, orRefused, listing, Desk}
 
 -- one step of those that remain

@@ -9,7 +9,7 @@ use Rattle.scope.specs.Keeper.{Keeper, Answer, Outcome, done, refused, cell, he
 use Rattle.scope.specs.Recovery.{tableOf}
 use Rattle.scope.specs.Calls.{recoveryStart, recoveryStep}
 use Rattle.keeper.specs.Answers.{stateless}
-use Rattle.listing_text.specs.Text.{line, refusedKey, tableText}
+use Rattle.text.specs.Text.{line, refusedKey, tableText}
 
 abbrev pub isCell : Answer → Bool
 isCell (done v) = false

@@ -1,12 +1,11 @@
 // The listing of a medium as text: recovery by the library's own calls in the caller's memory, then `cells`, `slots`, `head` and the cells
 // that are not empty; or the refusal's number.
 pub mod recovery;
-pub mod text;
 
 ghost use mathlib.Core.Path.{_≡_};
 ghost use Prim.Native.Nat.{_+_, _*_, _≤_};
 ghost use lib.ListN.{length, replicate};
-ghost use Rattle.listing_text.specs.Text.{Wrote};
+ghost use Rattle.text.specs.Text.{Wrote};
 ghost use Rattle.listing_text.specs.Listing.{listing};
 use medium::head::head_ok;
 use medium::layout::index;

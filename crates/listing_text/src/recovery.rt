@@ -1,19 +1,16 @@
 // A medium recovered to its end in workspaces of zeros, and its listing.
 ghost use mathlib.Core.Path.{_≡_};
-ghost use mathlib.Core.Bool.{true};
 ghost use mathlib.Core.List.{[]};
-ghost use Prim.Native.Nat.{_+_, _*_, _≤_, _<_};
-ghost use lib.ListN.{length, replicate};
-ghost use Rattle.scope.specs.Bytes.{numberAt};
-ghost use Rattle.scope.specs.Keeper.{headOk};
+ghost use Prim.Native.Nat.{_+_, _<_, _≤_};
+ghost use lib.ListN.{length};
 ghost use Rattle.keeper.specs.Answers.{handed, stepped};
-ghost use Rattle.listing_text.specs.Text.{Wrote};
+ghost use Rattle.text.specs.Text.{Wrote};
 ghost use Rattle.listing_text.specs.Listing.{isCell, steps, listing, Desk};
-use crate::text::put_line;
-use crate::text::put_table;
 use keeper::Answer;
 use keeper::State;
 use keeper::Step;
+use text::put_line;
+use text::put_table;
 
 // Whether a step stored a cell.
 fn is_cell(answer: Step) -> bool

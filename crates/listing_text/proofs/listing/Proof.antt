@@ -4,8 +4,8 @@ use borrow.Author.Needs.{needs}
 use native.Mathlib.Omega.{arith}
 use Rattle.keeper.proofs.Recovering.{head-fits}
 use Rattle.listing_text.proofs.Recovered.{listing-unfit, desk}
-use Rattle.listing_text.proofs.Writing.{wrote-same, length-line}
-use Rattle.listing_text.specs.Text.{refusedKey}
+use Rattle.text.proofs.Writing.{wrote-same, length-line}
+use Rattle.text.specs.Text.{refusedKey}
 use Rattle.listing_text.proofs.listing.Statement.{statement}
 use Rattle.listing_text.proofs.listing.Tie as tie
 

@@ -10,8 +10,8 @@ use Rattle.keeper.specs.Answers.{answered}
 use Rattle.scope.proofs.TableCells.{length-table}
 use Rattle.scope.specs.Recovery.{tableOf}
 use Rattle.listing_text.proofs.Recovered.{listing-refused, listing-done}
-use Rattle.listing_text.proofs.Writing.{wrote-same, length-line, length-table-text}
-use Rattle.listing_text.specs.Text.{refusedKey}
+use Rattle.text.proofs.Writing.{wrote-same, length-line, length-table-text}
+use Rattle.text.specs.Text.{refusedKey}
 use Rattle.listing_text.proofs.recovery.listing_within.Statement.{statement}
 use Rattle.listing_text.proofs.recovery.listing_within.Tie as tie
 

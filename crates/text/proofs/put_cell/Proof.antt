@@ -1,11 +1,11 @@
--- `listing_text::text::put_cell` meets its contract. Empty, or three lines, one after the other.
+-- `text::put_cell` meets its contract. Empty, or three lines, one after the other.
 use Prim.Native.Nat.{_%_}
 use borrow.Author.Needs.{needs}
 use native.Mathlib.Omega.{arith}
-use Rattle.listing_text.proofs.Writing.{length-line, cell-empty, cell-full}
-use Rattle.listing_text.specs.Text.{cellKey, partKey}
-use Rattle.listing_text.proofs.text.put_cell.Statement.{statement}
-use Rattle.listing_text.proofs.text.put_cell.Tie as tie
+use Rattle.text.proofs.Writing.{length-line, cell-empty, cell-full}
+use Rattle.text.specs.Text.{cellKey, partKey}
+use Rattle.text.proofs.put_cell.Statement.{statement}
+use Rattle.text.proofs.put_cell.Tie as tie
 
 returns : tie.Need-returns
 returns c = cell-empty _ _ _ _ (omega arith)

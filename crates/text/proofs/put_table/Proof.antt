@@ -1,12 +1,12 @@
--- `listing_text::text::put_table` meets its contract. Three lines and the cells, one after the other.
+-- `text::put_table` meets its contract. Three lines and the cells, one after the other.
 use borrow.Author.Needs.{needs}
 use native.Mathlib.Omega.{arith}
 use Rattle.scope.proofs.TableCells.{length-table}
 use Rattle.scope.specs.Recovery.{tableOf}
-use Rattle.listing_text.proofs.Writing.{length-line, wrote-table}
-use Rattle.listing_text.specs.Text.{cellsKey, slotsKey, headKey}
-use Rattle.listing_text.proofs.text.put_table.Statement.{statement}
-use Rattle.listing_text.proofs.text.put_table.Tie as tie
+use Rattle.text.proofs.Writing.{length-line, wrote-table}
+use Rattle.text.specs.Text.{cellsKey, slotsKey, headKey}
+use Rattle.text.proofs.put_table.Statement.{statement}
+use Rattle.text.proofs.put_table.Tie as tie
 
 slice-aggregate-put-line : tie.Need-slice-aggregate-put-line
 slice-aggregate-put-line c = search needs

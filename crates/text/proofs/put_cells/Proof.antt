@@ -1,14 +1,14 @@
--- `listing_text::text::put_cells` meets its contract. Invariant: the text of the first i cells stands in the text, 62 bytes a cell at most.
+-- `text::put_cells` meets its contract. Invariant: the text of the first i cells stands in the text, 62 bytes a cell at most.
 use Prim.Native.Nat.{_≤_, _-_}
 use lib.ListN.{length, take}
 use mathlib.Core.Path.{_≡_, refl}
 use native.Mathlib.Omega.{arith}
 use Rattle.scope.specs.Keeper.{cellAt}
 use Rattle.scope.specs.Recovery.{tableOf}
-use Rattle.listing_text.proofs.Writing.{cells-none, cells-again, cells-room, cells-end}
-use Rattle.listing_text.specs.Text.{Wrote, cellsText}
-use Rattle.listing_text.proofs.text.put_cells.Statement.{statement}
-use Rattle.listing_text.proofs.text.put_cells.Tie as tie
+use Rattle.text.proofs.Writing.{cells-none, cells-again, cells-room, cells-end}
+use Rattle.text.specs.Text.{Wrote, cellsText}
+use Rattle.text.proofs.put_cells.Statement.{statement}
+use Rattle.text.proofs.put_cells.Tie as tie
 
 abbrev Inv-loop : tie.InvT-loop
 Inv-loop medium slots cells text₀ at base end₀ i₀ text end i =

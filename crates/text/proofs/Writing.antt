@@ -14,7 +14,7 @@ use Rattle.scope.specs.Keeper.{cellAt, cellsOf}
 use Rattle.scope.specs.Recovery.{tableOf}
 use Rattle.scope.proofs.TableCells.{length-table}
 use Rattle.number.proofs.Numbers.{put-sets, put-next}
-use Rattle.listing_text.specs.Text.{Wrote, digits, decimal, line, releaseLine, cellText, cellsText, tableText, cellKey, partKey, releaseKey, cellsKey, slotsKey, headKey}
+use Rattle.text.specs.Text.{Wrote, digits, decimal, line, releaseLine, cellText, cellsText, tableText, cellKey, partKey, releaseKey, cellsKey, slotsKey, headKey}
 
 -- writing
 

@@ -1,9 +1,9 @@
--- `listing_text::text::put_release` meets its contract. Five texts, one after the other; a number has ten digits at most.
+-- `text::put_release` meets its contract. Five texts, one after the other; a number has ten digits at most.
 use borrow.Author.Needs.{needs}
 use native.Mathlib.Omega.{arith}
-use Rattle.listing_text.proofs.Writing.{length-decimal, wrote-release}
-use Rattle.listing_text.proofs.text.put_release.Statement.{statement}
-use Rattle.listing_text.proofs.text.put_release.Tie as tie
+use Rattle.text.proofs.Writing.{length-decimal, wrote-release}
+use Rattle.text.proofs.put_release.Statement.{statement}
+use Rattle.text.proofs.put_release.Tie as tie
 
 slice-aggregate-put-bytes : tie.Need-slice-aggregate-put-bytes
 slice-aggregate-put-bytes c = search needs

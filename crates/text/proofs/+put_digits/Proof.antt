@@ -1,17 +1,17 @@
--- `listing_text::text::put_digits` meets its contract. The digits before the last, by the call of itself with one digit fewer, then the last.
+-- `text::put_digits` meets its contract. The digits before the last, by the call of itself with one digit fewer, then the last.
 use Prim.Native.Nat.{ℕ, _<_, _-_, _/_}
 use borrow.Author.Needs.{needs}
 use borrow.Fn.Kinds.{In}
 use borrow.Fn.PlainCycle.{Measures, is, falls, and}
 use native.Mathlib.Omega.{arith}
-use Rattle.listing_text.proofs.Writing.{wrote-none, wrote-then, wrote-same, digits-none, digits-one, digits-more, length-digits}
-use Rattle.listing_text.proofs.text.+put_digits.{statement}
-use Rattle.listing_text.proofs.text.+put_digits.Tie.{close}
-use Rattle.listing_text.proofs.text.put_digits.Reads as put-digits
-use Rattle.listing_text.proofs.text.put_digits.Kinds as put-digits-kinds
-use Rattle.listing_text.proofs.text.+put_digits.Lts-put_digits as put-digits-lts
-use Rattle.listing_text.proofs.text.digit.Reads as digit-reads
-use Rattle.listing_text.proofs.text.put_byte.Reads as put-byte-reads
+use Rattle.text.proofs.Writing.{wrote-none, wrote-then, wrote-same, digits-none, digits-one, digits-more, length-digits}
+use Rattle.text.proofs.+put_digits.{statement}
+use Rattle.text.proofs.+put_digits.Tie.{close}
+use Rattle.text.proofs.put_digits.Reads as put-digits
+use Rattle.text.proofs.put_digits.Kinds as put-digits-kinds
+use Rattle.text.proofs.+put_digits.Lts-put_digits as put-digits-lts
+use Rattle.text.proofs.digit.Reads as digit-reads
+use Rattle.text.proofs.put_byte.Reads as put-byte-reads
 
 abbrev μ-put-digits : Measures 1 put-digits-kinds.ps ℕ
 μ-put-digits κs a = a .0

@@ -1,9 +1,9 @@
--- `listing_text::text::put_byte` meets its contract. One store.
+-- `text::put_byte` meets its contract. One store.
 use borrow.Author.Needs.{needs}
 use native.Mathlib.Omega.{arith}
-use Rattle.listing_text.proofs.Writing.{wrote-byte}
-use Rattle.listing_text.proofs.text.put_byte.Statement.{statement}
-use Rattle.listing_text.proofs.text.put_byte.Tie as tie
+use Rattle.text.proofs.Writing.{wrote-byte}
+use Rattle.text.proofs.put_byte.Statement.{statement}
+use Rattle.text.proofs.put_byte.Tie as tie
 
 slice-write-text : tie.Need-slice-write-text
 slice-write-text c = search needs

@@ -1,12 +1,12 @@
--- `listing_text::text::put_bytes` meets its contract. Invariant: the first i bytes stand in the text, and all else is as it was.
+-- `text::put_bytes` meets its contract. Invariant: the first i bytes stand in the text, and all else is as it was.
 use Prim.Native.Nat.{_≤_, _-_, _+_}
 use lib.ListN.{length, take, length-set}
 use mathlib.Core.Path.{_≡_, refl}
 use native.Mathlib.Omega.{arith}
-use Rattle.listing_text.proofs.Writing.{wrote-at-none, bytes-again, bytes-end}
-use Rattle.listing_text.specs.Text.{Wrote}
-use Rattle.listing_text.proofs.text.put_bytes.Statement.{statement}
-use Rattle.listing_text.proofs.text.put_bytes.Tie as tie
+use Rattle.text.proofs.Writing.{wrote-at-none, bytes-again, bytes-end}
+use Rattle.text.specs.Text.{Wrote}
+use Rattle.text.proofs.put_bytes.Statement.{statement}
+use Rattle.text.proofs.put_bytes.Tie as tie
 
 abbrev Inv-loop : tie.InvT-loop
 Inv-loop bytes text₀ at i₀ text i =

@@ -1,8 +1,8 @@
--- `listing_text::text::put_decimal` meets its contract. At most ten digits.
+-- `text::put_decimal` meets its contract. At most ten digits.
 use borrow.Author.Needs.{needs}
-use Rattle.listing_text.specs.Text.{decimal}
-use Rattle.listing_text.proofs.text.put_decimal.Statement.{statement}
-use Rattle.listing_text.proofs.text.put_decimal.Tie as tie
+use Rattle.text.specs.Text.{decimal}
+use Rattle.text.proofs.put_decimal.Statement.{statement}
+use Rattle.text.proofs.put_decimal.Tie as tie
 
 put-digits-requires : tie.Need-put-digits-requires
 put-digits-requires c κs = search needs

@@ -1,10 +1,10 @@
-// Text in a lent buffer: each function writes from a place on and answers the place after it.
+// The text of a table in a lent buffer: each function writes from a place on and answers the place after it.
 ghost use mathlib.Core.Path.{_≡_};
 ghost use mathlib.Core.List.{_∷_, []};
 ghost use Prim.Native.Nat.{_+_, _*_, _<_, _≤_};
 ghost use lib.ListN.{length};
 ghost use Rattle.scope.specs.Recovery.{tableOf};
-ghost use Rattle.listing_text.specs.Text.{Wrote, digits, decimal, line, releaseLine, cellText, cellsText, tableText};
+ghost use Rattle.text.specs.Text.{Wrote, digits, decimal, line, releaseLine, cellText, cellsText, tableText};
 use medium::layout::cell_at;
 use medium::layout::index;
 

@@ -1,9 +1,9 @@
--- `listing_text::text::put_line` meets its contract. Three texts, one after the other; a number has ten digits at most.
+-- `text::put_line` meets its contract. Three texts, one after the other; a number has ten digits at most.
 use borrow.Author.Needs.{needs}
 use native.Mathlib.Omega.{arith}
-use Rattle.listing_text.proofs.Writing.{length-decimal, wrote-line}
-use Rattle.listing_text.proofs.text.put_line.Statement.{statement}
-use Rattle.listing_text.proofs.text.put_line.Tie as tie
+use Rattle.text.proofs.Writing.{length-decimal, wrote-line}
+use Rattle.text.proofs.put_line.Statement.{statement}
+use Rattle.text.proofs.put_line.Tie as tie
 
 put-bytes-requires : tie.Need-put-bytes-requires
 put-bytes-requires c κs = search needs
