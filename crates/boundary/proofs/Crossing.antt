@@ -1,10 +1,9 @@
 -- A call over the boundary, for every call: done on the state in the slice, or refused with 1 where the slice holds none.
 use Prim.Native.Nat.{ℕ}
-use mathlib.Core.Path.{_≡_, refl, sym, ap, _∙_}
+use mathlib.Core.Path.{_≡_, sym, ap, _∙_}
 use mathlib.Core.Bool.{Bool, true, false}
-use mathlib.Core.List.{List, []}
+use mathlib.Core.List.{List}
 use borrow.Author.Tests.{eq-eqb, ne-eqb}
-use lib.Dec.{eqb}
 use lib.ListN.{length}
 use Rattle.scope.specs.Bytes.{pick}
 use Rattle.scope.specs.Keeper.{Keeper, Answer, Outcome, State, refused, noState, refusalOf}
@@ -13,7 +12,7 @@ use Rattle.refusal.specs.Lent.{lentTo}
 use Rattle.keeper.specs.Answers.{handed, stateless, leaves}
 use Rattle.keeper.specs.declared.State as code
 use Rattle.boundary.proofs.SevenNumbers.{put-back}
-use Rattle.boundary.specs.Boundary.{numbersOf, isState, seven, stateIn, stateAfter, Result, result, noValue, lentOver, handedBack, over, startOver}
+use Rattle.boundary.specs.Boundary.{numbersOf, isState, seven, stateIn, stateAfter, result, noValue, lentOver, handedBack, over, startOver}
 
 module _ (xs m c f l w : List ℕ) (t : Bool) (e : t ≡ isState xs) where
   -- the keeper that is lent

@@ -5,16 +5,16 @@ use mathlib.Core.Bool.{Bool, true, false}
 use mathlib.Core.List.{List, []}
 use native.Mathlib.Omega.{arith}
 use borrow.Author.Tests.{eq-eqb, ne-eqb, le-leb, lt-leb}
-use lib.Dec.{eqb, leb}
+use lib.Dec.{eqb}
 use lib.ListN.{length, take, drop, length-drop}
 use lib.Seq.{take-all}
-use Rattle.scope.specs.Bytes.{pick, numberAt}
-use Rattle.scope.specs.Keeper.{Keeper, Answer, part, refused, refusalOf, partOf, rowAt}
+use Rattle.scope.specs.Bytes.{numberAt}
+use Rattle.scope.specs.Keeper.{Keeper, part, refusalOf, rowAt}
 use Rattle.scope.specs.Refusals.{Look, TableView, refusal}
 use Rattle.scope.specs.Calls.{unless, look, tableView}
 use Rattle.state.specs.State.{stateOf}
 use Rattle.medium.specs.Lent.{onMedium}
-use Rattle.medium.proofs.Heads.{view-fits, view-part}
+use Rattle.medium.proofs.Heads.{view-part}
 use Rattle.refusal.specs.Lent.{lentTo}
 use Rattle.keeper.specs.Answers.{handed, stateless}
 use Rattle.keeper.specs.declared.State as code

@@ -1,7 +1,7 @@
 -- A row read and written: one law for each exit, by what the row, or its fields, are as an entry.
-use Prim.Native.Nat.{ℕ, _≤_, _<_}
-use mathlib.Core.Path.{_≡_, refl, sym, ap, _∙_}
-use mathlib.Core.Bool.{Bool, true, false}
+use Prim.Native.Nat.{ℕ}
+use mathlib.Core.Path.{_≡_, refl, ap, _∙_}
+use mathlib.Core.Bool.{Bool}
 use mathlib.Core.List.{List, [], _∷_}
 use mathlib.Core.Option.{Option, none, some}
 use native.Mathlib.Omega.{arith}
@@ -9,7 +9,7 @@ use borrow.Author.Tests.{eq-eqb, ne-eqb}
 use lib.ListN.{length, set}
 use Rattle.scope.specs.Bytes.{pick}
 use Rattle.scope.specs.Row.{Entry, update, commitEntry, abortEntry, entryOf, writeRow, isWritable}
-use Rattle.boundary.specs.Rows.{Fields, kindOf, fieldsOf, rowRead, Written, rowWritten}
+use Rattle.boundary.specs.Rows.{kindOf, fieldsOf, rowRead, rowWritten}
 
 pub stored-four : (s : List ℕ) → length s ≡ 4 → (a b c d : ℕ) → set (set (set (set s 0 a) 1 b) 2 c) 3 d ≡ a ∷ b ∷ c ∷ d ∷ []
 stored-four [] n a b c d = absurd (omega arith)

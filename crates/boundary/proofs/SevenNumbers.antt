@@ -1,16 +1,16 @@
 -- The state and its seven numbers: one law for each exit of the functions between them, and that each gives the other back.
 use Prim.Native.Nat.{ℕ, zero, suc, _≤_, _<_}
 use mathlib.Core.Path.{_≡_, refl, sym, ap, _∙_}
-use mathlib.Core.Bool.{Bool, true, false, _&&_}
+use mathlib.Core.Bool.{Bool, true, false}
 use mathlib.Core.List.{List, [], _∷_}
-use mathlib.Core.Option.{Option, none, some}
+use mathlib.Core.Option.{none, some}
 use native.Mathlib.Omega.{arith}
 use borrow.Author.Tests.{eq-eqb, ne-eqb, le-leb, lt-leb, eqb-true, leb-true}
 use lib.Dec.{eqb, leb}
 use lib.ListN.{length, getD, set}
 use Rattle.scope.specs.Bytes.{pick}
 use Rattle.scope.specs.Keeper.{Phase, idle, run, recovering, State}
-use Rattle.state.specs.State.{phaseOf, stateOf}
+use Rattle.state.specs.State.{stateOf}
 use Rattle.state.specs.declared.Phase as code
 use Rattle.state.specs.declared.Phase.the-variants.{Idle, Run, Recovering}
 use Rattle.state.proofs.Facts.{and-left, and-right}

@@ -2,7 +2,7 @@
 use Prim.Native.Nat.{ℕ}
 use mathlib.Core.Path.{_≡_, refl}
 use mathlib.Core.List.{List}
-use Rattle.scope.specs.Keeper.{Keeper, Outcome, State, refused, noState, sound, inRange}
+use Rattle.scope.specs.Keeper.{Keeper, Outcome, refused, noState, sound, inRange}
 use Rattle.scope.specs.Refusals.{refusal, tests, unfit}
 use Rattle.scope.specs.Calls.{unless, recoveryStep, begin, read, write, commit, abort, force, writeBack, cut, look}
 use Rattle.keeper.specs.Answers.{stateless}

@@ -1,7 +1,7 @@
 -- Look and table view over the boundary: the offset of the part that the papers' call hands back.
 use Prim.Native.Nat.{ℕ, _+_, _*_}
 use mathlib.Core.Path.{_≡_}
-use mathlib.Core.List.{List, []}
+use mathlib.Core.List.{List}
 use lib.Dec.{eqb, leb}
 use lib.ListN.{take, drop}
 use Rattle.scope.specs.Bytes.{pick, numberAt}

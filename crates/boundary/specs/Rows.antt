@@ -1,12 +1,11 @@
 -- Rows over the boundary: an entry as its kind and four numbers.
 use Prim.Native.Nat.{ℕ}
-use mathlib.Core.Bool.{Bool, _&&_}
 use mathlib.Core.List.{List, [], _∷_}
 use mathlib.Core.Option.{Option, none, some}
 use lib.Dec.{eqb}
 use lib.ListN.{length}
 use Rattle.scope.specs.Bytes.{pick}
-use Rattle.scope.specs.Row.{Entry, update, commitEntry, abortEntry, entryOf, readRow, writeRow, isWritable, isEntry}
+use Rattle.scope.specs.Row.{Entry, update, commitEntry, abortEntry, writeRow, isWritable}
 
 -- the kind of what a row reads as; 0: nothing
 abbrev pub kindOf : Option Entry → ℕ
