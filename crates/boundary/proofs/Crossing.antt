@@ -8,8 +8,8 @@ use lib.ListN.{length}
 use Rattle.scope.specs.Bytes.{pick}
 use Rattle.scope.specs.Keeper.{Keeper, Answer, Outcome, State, refused, noState, refusalOf}
 use Rattle.state.specs.State.{stateOf}
-use Rattle.refusal.specs.Lent.{lentTo}
-use Rattle.keeper.specs.Answers.{handed, stateless, leaves}
+use Rattle.state.specs.Lent.{lentTo, stateless}
+use Rattle.keeper.specs.Answers.{handed, leaves}
 use Rattle.keeper.specs.declared.State as code
 use Rattle.boundary.proofs.SevenNumbers.{put-back}
 use Rattle.boundary.specs.Boundary.{numbersOf, isState, seven, stateIn, stateAfter, result, noValue, lentOver, handedBack, over, startOver}

@@ -9,7 +9,7 @@ use Rattle.scope.specs.Bytes.{pick}
 use Rattle.scope.specs.Keeper.{Keeper, Answer, Outcome, refused, done, refusalOf}
 use Rattle.scope.specs.Calls.{unless, commit, force}
 use Rattle.state.specs.State.{stateOf}
-use Rattle.refusal.specs.Lent.{lentTo}
+use Rattle.state.specs.Lent.{lentTo}
 use Rattle.keeper.specs.Answers.{answered, handed, leaves}
 use Rattle.keeper.specs.declared.State as code
 use Rattle.keeper.specs.declared.Answer as plain

@@ -15,8 +15,8 @@ use Rattle.scope.specs.Calls.{unless, look, tableView}
 use Rattle.state.specs.State.{stateOf}
 use Rattle.medium.specs.Lent.{onMedium}
 use Rattle.medium.proofs.Heads.{view-part}
-use Rattle.refusal.specs.Lent.{lentTo}
-use Rattle.keeper.specs.Answers.{handed, stateless}
+use Rattle.state.specs.Lent.{lentTo, stateless}
+use Rattle.keeper.specs.Answers.{handed}
 use Rattle.keeper.specs.declared.State as code
 use Rattle.keeper.proofs.LookLaws.{Looking, looking, medium-part, waiting-part}
 use Rattle.boundary.specs.Boundary.{isState, seven, lentOver}

@@ -5,7 +5,7 @@ use mathlib.Core.List.{List}
 use Rattle.scope.specs.Keeper.{Keeper, Outcome, refused, noState, sound, inRange}
 use Rattle.scope.specs.Refusals.{refusal, tests, unfit}
 use Rattle.scope.specs.Calls.{unless, recoveryStep, begin, read, write, commit, abort, force, writeBack, cut, look}
-use Rattle.keeper.specs.Answers.{stateless}
+use Rattle.state.specs.Lent.{stateless}
 
 abbrev pub Refuses : (Keeper → Outcome) → Keeper → Type 0
 Refuses call k = call k ≡ record { answer = refused 1; keeper = k }

@@ -3,13 +3,14 @@ ghost use mathlib.Core.Path.{_≡_};
 ghost use lib.ListN.{length};
 ghost use Rattle.scope.specs.Keeper.{refusalOf, valueOf};
 ghost use Rattle.state.specs.State.{phaseOf, stateOf};
-ghost use Rattle.keeper.specs.Answers.{answered, stepped, writtenBack};
+ghost use Rattle.recovery.specs.Answers.{stepped};
+ghost use Rattle.keeper.specs.Answers.{answered, writtenBack};
 ghost use Rattle.boundary.specs.Boundary.{phaseNo, numbersOf, stateHeld, stepValue, backValue};
 ghost use Rattle.boundary.specs.Held.{heldIn};
 use keeper::Answer;
 use keeper::Back;
 use keeper::State;
-use keeper::Step;
+use recovery::Step;
 use state::Numbers;
 use state::Phase;
 

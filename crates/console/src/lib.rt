@@ -4,7 +4,7 @@ use keeper::Answer;
 use keeper::Back;
 use keeper::Outcome;
 use keeper::State;
-use keeper::Step;
+use recovery::Step;
 use keeper::Stepped;
 use keeper::WrittenBack;
 use medium::layout::cell_at;

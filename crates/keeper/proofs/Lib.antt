@@ -1,6 +1,6 @@
 pub mod LookLaws
 pub mod Passed
-pub mod Recovering
+pub mod Recoveries
 pub mod Sames
 pub mod Stores
 pub mod Transactions

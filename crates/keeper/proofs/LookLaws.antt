@@ -11,16 +11,14 @@ use Rattle.scope.specs.Bytes.{pick}
 use Rattle.scope.specs.Keeper.{Keeper, part, refusalOf, partOf, rowAt, waitingRow, mediumRow}
 use Rattle.scope.specs.Refusals.{Look, isMedium, isRows, lent, unfit, tests, refusal}
 use Rattle.scope.specs.Calls.{unless, look}
-use Rattle.scope.proofs.Refusals.{refusal-none}
+use Rattle.scope.proofs.Refusals.{refusal-none, numbered-refused, numbered-done}
 use Rattle.scope.proofs.Sound.{fit-sound, fit-lent}
 use Rattle.state.specs.State.{stateOf}
 use Rattle.state.specs.declared.Numbers.{Numbers}
-use Rattle.state.proofs.Facts.{and-left, and-right, sound-facts}
-use Rattle.refusal.specs.Lent.{lentTo}
-use Rattle.refusal.proofs.Lengths.{medium-fits}
+use Rattle.state.proofs.Facts.{and-left, and-right, sound-facts, medium-fits}
+use Rattle.state.specs.Lent.{lentTo}
 use Rattle.keeper.specs.Answers.{handed}
 use Rattle.keeper.specs.declared.State.{State}
-use Rattle.keeper.proofs.Unless.{unless-refused, unless-done}
 
 part-number : (x : ℕ) (b : List ℕ) (k : Keeper) → x ≡ refusalOf (unless x (record { answer = part b; keeper = k }) k .answer)
 unfolding unless
@@ -48,7 +46,7 @@ module _ (s : State) (n : ℕ) (m w : List ℕ) (no : ℕ) (e : no ≡ refusal (
 
   pub no-part : (no ≡ 0 → ⊥) → [] ≡ partOf (look n (handed s m [] [] [] w) .answer)
   unfolding look handed
-  no-part h = ap (λ o. partOf (o .answer)) (unless-refused (Look n) (lentTo (s .numbers) (s .phase) m [] [] [] w) _ no e h)
+  no-part h = ap (λ o. partOf (o .answer)) (numbered-refused (Look n) (lentTo (s .numbers) (s .phase) m [] [] [] w) _ no e h)
 
   module _ (h : no ≡ 0) where
     pub looking : Looking (s .numbers) n m w
@@ -67,7 +65,7 @@ module _ (s : State) (n : ℕ) (m w : List ℕ) (no : ℕ) (e : no ≡ refusal (
 
     part-is : (b : List ℕ) → b ≡ pick (leb n (s .numbers .f)) (mediumRow k n) (waitingRow k n) → b ≡ partOf (look n (handed s m [] [] [] w) .answer)
     unfolding look handed lentTo stateOf k
-    part-is b q = q ∙ ap (λ o. partOf (o .answer)) (unless-done (Look n) (lentTo (s .numbers) (s .phase) m [] [] [] w) _ no e h)
+    part-is b q = q ∙ ap (λ o. partOf (o .answer)) (numbered-done (Look n) (lentTo (s .numbers) (s .phase) m [] [] [] w) _ no e h)
 
     module _ (row : ℕ) (r : row ≡ rowAt (s .numbers .slots) n) where
       pub medium-part : n ≤ s .numbers .f → take (32 + row + 32 - (32 + row)) (drop (32 + row) m) ≡ partOf (look n (handed s m [] [] [] w) .answer)

@@ -14,9 +14,8 @@ use Rattle.state.specs.State.{phaseOf, stateOf}
 use Rattle.state.specs.declared.Numbers.{Numbers}
 use Rattle.state.specs.declared.Phase as code
 use Rattle.state.specs.declared.Phase.the-variants.{Idle, Run, Recovering}
-use Rattle.state.proofs.Facts.{and-left, and-right, Sound, sound-facts, run-facts}
-use Rattle.refusal.specs.Lent.{lentTo}
-use Rattle.refusal.proofs.Lengths.{medium-fits}
+use Rattle.state.proofs.Facts.{and-left, and-right, Sound, sound-facts, run-facts, medium-fits}
+use Rattle.state.specs.Lent.{lentTo}
 use Rattle.keeper.specs.Rolling.{Rolling}
 
 ruleset lengths = (and-left, and-right, eqb-true)

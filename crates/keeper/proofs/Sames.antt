@@ -8,16 +8,17 @@ use Rattle.scope.specs.Calls.{recoveryStart, recoveryStep, begin, read, write, 
 use Rattle.state.specs.State.{phaseOf, stateOf}
 use Rattle.state.specs.declared.Phase as code
 use Rattle.state.specs.declared.Phase.the-variants.{Idle, Run, Recovering}
-use Rattle.refusal.specs.Lent.{lentTo}
-use Rattle.keeper.specs.Answers.{answered, stepped, writtenBack, handed, stateless, leaves}
+use Rattle.state.specs.Lent.{lentTo, stateless}
+use Rattle.recovery.specs.Answers.{stepped}
+use Rattle.recovery.specs.declared.Step as step
+use Rattle.recovery.specs.declared.Step.the-variants as stepping
+use Rattle.keeper.specs.Answers.{answered, writtenBack, handed, leaves}
 use Rattle.keeper.specs.declared.State.{State}
 use Rattle.keeper.specs.declared.Outcome as outcome
 use Rattle.keeper.specs.declared.Stepped as steps
 use Rattle.keeper.specs.declared.WrittenBack as backs
 use Rattle.keeper.specs.declared.Answer as plain
 use Rattle.keeper.specs.declared.Answer.the-variants as answer
-use Rattle.keeper.specs.declared.Step as step
-use Rattle.keeper.specs.declared.Step.the-variants as stepping
 use Rattle.keeper.specs.declared.Back as back
 use Rattle.keeper.specs.declared.Back.the-variants as backing
 

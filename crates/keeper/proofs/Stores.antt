@@ -12,12 +12,13 @@ use Rattle.scope.specs.Keeper.{Outcome, done, refused, clean, stored, rowAt, ce
 use Rattle.scope.specs.Refusals.{Force, WriteBack, Cut, refusal}
 use Rattle.scope.specs.Calls.{force, writeBack, cleaned, cut}
 use Rattle.state.specs.State.{stateOf}
-use Rattle.refusal.specs.Lent.{lentTo}
+use Rattle.state.specs.Lent.{lentTo}
 use Rattle.keeper.specs.Answers.{answered, handed, leaves}
 use Rattle.keeper.specs.declared.State.{State}
 use Rattle.keeper.specs.declared.Outcome as result
 use Rattle.keeper.specs.declared.Answer.the-variants.{Done, Refused}
-use Rattle.keeper.proofs.Unless.{unless-refused, unless-done, refused-leaves}
+use Rattle.scope.proofs.Refusals.{numbered-refused, numbered-done}
+use Rattle.keeper.proofs.Unless.{refused-leaves}
 
 module _ (s : State) (number : ℕ) where
   module _ (r : result.Outcome) where
@@ -32,14 +33,14 @@ module _ (s : State) (number : ℕ) where
       pub force-none : number ≡ 0 → s .numbers .l ≤ s .numbers .f → r ≡ record { answer = Done 0; state = record { numbers = s .numbers; phase = s .phase } }
           → leaves (answered (r .answer)) (r .state) medium [] [] [] waiting ≡ force (handed s medium [] [] [] waiting)
       unfolding force leaves handed lentTo stateOf
-      force-none z h q = rw (q, le-ltb (s .numbers .f) (s .numbers .l) h) (unless-done Force (lentTo (s .numbers) (s .phase) medium [] [] [] waiting) _ number e z)
+      force-none z h q = rw (q, le-ltb (s .numbers .f) (s .numbers .l) h) (numbered-done Force (lentTo (s .numbers) (s .phase) medium [] [] [] waiting) _ number e z)
 
       pub force-stored : (n : ℕ) (m : List ℕ) → number ≡ 0 → s .numbers .f < s .numbers .l → n ≡ s .numbers .f + 1
           → m ≡ put medium (32 + rowAt (s .numbers .slots) n) (take 32 (drop (rowAt (s .numbers .slots) n) waiting))
           → r ≡ record { answer = Done n; state = record { numbers = record { cells = s .numbers .cells; slots = s .numbers .slots; h = s .numbers .h; f = n; l = s .numbers .l; o = s .numbers .o }; phase = s .phase } }
           → leaves (answered (r .answer)) (r .state) m [] [] [] waiting ≡ force (handed s medium [] [] [] waiting)
       unfolding force leaves handed lentTo stateOf withState withMedium storedNext waitingRow
-      force-stored n m z h p g q = rw (q, g, p, lt-ltb (s .numbers .f) (s .numbers .l) h) (unless-done Force (lentTo (s .numbers) (s .phase) medium [] [] [] waiting) _ number e z)
+      force-stored n m z h p g q = rw (q, g, p, lt-ltb (s .numbers .f) (s .numbers .l) h) (numbered-done Force (lentTo (s .numbers) (s .phase) medium [] [] [] waiting) _ number e z)
 
     -- cut
 
@@ -53,20 +54,20 @@ module _ (s : State) (number : ℕ) where
           → r ≡ record { answer = Done 0; state = record { numbers = record { cells = s .numbers .cells; slots = s .numbers .slots; h = p; f = s .numbers .f; l = s .numbers .l; o = s .numbers .o }; phase = s .phase } }
           → leaves (answered (r .answer)) (r .state) m [] first [] [] ≡ cut p (handed s medium [] first [] [])
       unfolding cut leaves handed lentTo stateOf withState withMedium droppedTo storeHead
-      cut-done m z g q = rw (q, g) (unless-done (Cut p) (lentTo (s .numbers) (s .phase) medium [] first [] []) _ number e z)
+      cut-done m z g q = rw (q, g) (numbered-done (Cut p) (lentTo (s .numbers) (s .phase) medium [] first [] []) _ number e z)
 
   -- write-back
 
   module _ (cell : ℕ) (medium current first last : List ℕ) (e : number ≡ refusal (WriteBack cell) (lentTo (s .numbers) (s .phase) medium current first last [])) where
     pub back-refused : (number ≡ 0 → ⊥) → leaves (refused number) s medium current first last [] ≡ writeBack cell (handed s medium current first last [])
     unfolding writeBack leaves handed
-    back-refused h = unless-refused (WriteBack cell) (lentTo (s .numbers) (s .phase) medium current first last []) _ number e h
+    back-refused h = numbered-refused (WriteBack cell) (lentTo (s .numbers) (s .phase) medium current first last []) _ number e h
 
     pub back-clean : (at : ℕ) → number ≡ 0 → at ≡ cell → getD first at 0 ≡ 0 → leaves clean s medium current first last [] ≡ writeBack cell (handed s medium current first last [])
     unfolding writeBack leaves handed lentTo
     back-clean at z p q =
         let h : ltb 0 (getD first cell 0) ≡ false = ap (λ i. ltb 0 (getD first i 0)) (sym p) ∙ le-ltb 0 (getD first at 0) (omega arith) in
-        rw h (unless-done (WriteBack cell) (lentTo (s .numbers) (s .phase) medium current first last []) _ number e z)
+        rw h (numbered-done (WriteBack cell) (lentTo (s .numbers) (s .phase) medium current first last []) _ number e z)
 
     pub back-stored : (at : ℕ) (m : List ℕ) → number ≡ 0 → at ≡ cell → (getD first at 0 ≡ 0 → ⊥)
         → m ≡ put medium (cellAt (s .numbers .slots) cell) (bytesOf 8 (getD current at 0))
@@ -74,4 +75,4 @@ module _ (s : State) (number : ℕ) where
     unfolding writeBack leaves handed lentTo stateOf cleaned storeCell withMedium
     back-stored at m z p q g =
         let h : ltb 0 (getD first cell 0) ≡ true = ap (λ i. ltb 0 (getD first i 0)) (sym p) ∙ lt-ltb 0 (getD first at 0) (omega arith) in
-        rw (g, p, h) (unless-done (WriteBack cell) (lentTo (s .numbers) (s .phase) medium current first last []) _ number e z)
+        rw (g, p, h) (numbered-done (WriteBack cell) (lentTo (s .numbers) (s .phase) medium current first last []) _ number e z)

@@ -18,12 +18,13 @@ use Rattle.row.specs.declared.Entry.the-variants as what
 use Rattle.journal.specs.Entries.{entryIn}
 use Rattle.workspace.specs.Desk.{Desk, desk, assigned, rolledFrom}
 use Rattle.workspace.proofs.Desks.{withDesk, rollback-desk}
-use Rattle.refusal.specs.Lent.{lentTo}
+use Rattle.state.specs.Lent.{lentTo}
 use Rattle.keeper.specs.Answers.{answered, handed, leaves}
 use Rattle.keeper.specs.declared.State.{State}
 use Rattle.keeper.specs.declared.Outcome as result
 use Rattle.keeper.specs.declared.Answer.the-variants.{Done, Refused}
-use Rattle.keeper.proofs.Unless.{unless-done, refused-leaves}
+use Rattle.scope.proofs.Refusals.{numbered-done}
+use Rattle.keeper.proofs.Unless.{refused-leaves}
 
 module _ (s : State) (r : result.Outcome) (number : ℕ) where
   -- read
@@ -37,7 +38,7 @@ module _ (s : State) (r : result.Outcome) (number : ℕ) where
     pub read-done : (at v : ℕ) → at ≡ cell → v ≡ getD current at 0 → r ≡ record { answer = Done v; state = record { numbers = s .numbers; phase = s .phase } } → number ≡ 0
         → leaves (answered (r .answer)) (r .state) [] current [] [] [] ≡ read cell (handed s [] current [] [] [])
     unfolding read leaves handed lentTo
-    read-done at v p q f z = rw (f, q, p) (unless-done (Read cell) (lentTo (s .numbers) (s .phase) [] current [] [] []) _ number e z)
+    read-done at v p q f z = rw (f, q, p) (numbered-done (Read cell) (lentTo (s .numbers) (s .phase) [] current [] [] []) _ number e z)
 
   -- commit
 
@@ -52,7 +53,7 @@ module _ (s : State) (r : result.Outcome) (number : ℕ) where
         → r ≡ record { answer = Done n; state = record { numbers = m; phase = Idle } } → number ≡ 0
         → leaves (answered (r .answer)) (r .state) [] [] [] [] w ≡ commit (handed s [] [] [] [] waiting)
     unfolding commit leaves handed lentTo stateOf withState withWaiting madeTo append
-    commit-done n w m p q g f z = rw (f, g, q, p) (unless-done Commit (lentTo (s .numbers) (s .phase) [] [] [] [] waiting) _ number e z)
+    commit-done n w m p q g f z = rw (f, g, q, p) (numbered-done Commit (lentTo (s .numbers) (s .phase) [] [] [] [] waiting) _ number e z)
 
   -- write, abort and begin
 
@@ -73,7 +74,7 @@ module _ (s : State) (r : result.Outcome) (number : ℕ) where
           rw (x, g, q, o, a, p)
           (ap (λ (y : Desk). record { answer = done 0; keeper = lentTo (record { cells = s .numbers .cells; slots = s .numbers .slots; h = s .numbers .h; f = s .numbers .f; l = s .numbers .l + 1; o = s .numbers .o }) Run [] (y .current) (y .first) (y .last) (put waiting (rowAt (s .numbers .slots) (s .numbers .l + 1)) (rowBytes (s .numbers .l + 1) (update cell (getD current cell 0) value))) })
           (d ∙ ap (λ i. assigned i cell value (desk current first last)) p)
-          ∙ unless-done (Write cell value) (lentTo (s .numbers) (s .phase) [] current first last waiting) _ number (e value) z)
+          ∙ numbered-done (Write cell value) (lentTo (s .numbers) (s .phase) [] current first last waiting) _ number (e value) z)
 
     -- the abort entry appended and the rows rolled back
     pub roll-done : (next : code.Phase) (n : ℕ) (c f l w : List ℕ) (m : Numbers) → n ≡ s .numbers .l + 1
@@ -106,14 +107,14 @@ module _ (s : State) (r : result.Outcome) (number : ℕ) where
         unfolding abort handed lentTo stateOf
         abort-run o y q =
             q ∙ ap (λ x. record { answer = done 0; keeper = pick x (rolledBack idle (handed s [] current first last waiting)) (handed s [] current first last waiting) }) (sym y ∙ bb)
-            ∙ unless-done Abort (lentTo (s .numbers) (s .phase) [] current first last waiting) _ number e z
+            ∙ numbered-done Abort (lentTo (s .numbers) (s .phase) [] current first last waiting) _ number e z
 
         pub abort-idle : b ≡ false → r ≡ record { answer = Done 0; state = record { numbers = s .numbers; phase = s .phase } }
             → leaves (answered (r .answer)) (r .state) [] current first last waiting ≡ abort (handed s [] current first last waiting)
         unfolding abort leaves handed lentTo stateOf
         abort-idle y q =
             rw q (ap (λ x. record { answer = done 0; keeper = pick x (rolledBack idle (handed s [] current first last waiting)) (handed s [] current first last waiting) }) (sym y ∙ bb)
-            ∙ unless-done Abort (lentTo (s .numbers) (s .phase) [] current first last waiting) _ number e z)
+            ∙ numbered-done Abort (lentTo (s .numbers) (s .phase) [] current first last waiting) _ number e z)
 
     module _ (e : number ≡ refusal Begin (lentTo (s .numbers) (s .phase) [] current first last waiting)) where
       pub begin-refused : r ≡ record { answer = Refused number; state = s } → (number ≡ 0 → ⊥)
@@ -130,7 +131,7 @@ module _ (s : State) (r : result.Outcome) (number : ℕ) where
         unfolding begin handed lentTo stateOf opened
         begin-run o y q =
             q ∙ ap (λ x. record { answer = done 0; keeper = pick x (rolledBack run (handed s [] current first last waiting)) opened }) (sym y ∙ bb)
-            ∙ unless-done Begin (lentTo (s .numbers) (s .phase) [] current first last waiting) _ number e z
+            ∙ numbered-done Begin (lentTo (s .numbers) (s .phase) [] current first last waiting) _ number e z
 
         pub begin-idle : (m : Numbers) → b ≡ false
             → m ≡ record { cells = s .numbers .cells; slots = s .numbers .slots; h = s .numbers .h; f = s .numbers .f; l = s .numbers .l; o = s .numbers .l }
@@ -139,4 +140,4 @@ module _ (s : State) (r : result.Outcome) (number : ℕ) where
         unfolding begin leaves handed lentTo stateOf opened withState madeTo
         begin-idle m y g q =
             rw (q, g) (ap (λ x. record { answer = done 0; keeper = pick x (rolledBack run (handed s [] current first last waiting)) opened }) (sym y ∙ bb)
-            ∙ unless-done Begin (lentTo (s .numbers) (s .phase) [] current first last waiting) _ number e z)
+            ∙ numbered-done Begin (lentTo (s .numbers) (s .phase) [] current first last waiting) _ number e z)

@@ -3,11 +3,12 @@
 //
 // A call that is refused answers the papers' number, hands back the state that it was given and changes no byte.
 pub mod looking;
-pub mod recovery;
+pub mod recovering;
 pub mod storing;
 pub mod transaction;
 
 ghost use mathlib.Core.Path.{_≡_};
+use recovery::Step;
 use state::Numbers;
 use state::Phase;
 
@@ -26,14 +27,6 @@ pub enum Answer {
 pub struct Outcome {
     pub answer: Answer,
     pub state: State,
-}
-
-// A recovery step stored a cell or the head, or nothing.
-pub enum Step {
-    Cell(u32),
-    Head,
-    Clean,
-    Refused(u32),
 }
 
 pub struct Stepped {

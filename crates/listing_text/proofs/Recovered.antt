@@ -12,9 +12,9 @@ use Rattle.scope.specs.Refusals.{RecoveryStep, refusal, tests}
 use Rattle.scope.specs.Calls.{recoveryStart, recoveryStep, unlessStart, act}
 use Rattle.scope.proofs.Frames.{onto, frame}
 use Rattle.state.specs.State.{stateOf}
-use Rattle.refusal.specs.Lent.{lentTo}
+use Rattle.state.specs.Lent.{lentTo, stateless}
 use Rattle.keeper.proofs.Recovering.{head-fits}
-use Rattle.keeper.specs.Answers.{handed, stateless, leaves}
+use Rattle.keeper.specs.Answers.{handed, leaves}
 use Rattle.keeper.specs.declared.State.{State}
 use Rattle.text.specs.Text.{line, refusedKey, tableText}
 use Rattle.listing_text.specs.Listing.{isCell, steps, started, recovered, orRefused, listing, Desk}

@@ -8,7 +8,7 @@ use Rattle.scope.specs.Bytes.{pick, numberAt}
 use Rattle.scope.specs.Keeper.{Keeper, Answer, Outcome, done, refused, cell, head, clean, stored, part, headOk}
 use Rattle.scope.specs.Recovery.{tableOf}
 use Rattle.scope.specs.Calls.{recoveryStart, recoveryStep}
-use Rattle.keeper.specs.Answers.{stateless}
+use Rattle.state.specs.Lent.{stateless}
 use Rattle.text.specs.Text.{line, refusedKey, tableText}
 
 abbrev pub isCell : Answer → Bool

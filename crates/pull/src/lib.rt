@@ -3,7 +3,7 @@ use book::image;
 use keeper::Answer;
 use keeper::Outcome;
 use keeper::State;
-use keeper::Step;
+use recovery::Step;
 
 // A state after a step, and whether recovery goes on.
 struct Went {

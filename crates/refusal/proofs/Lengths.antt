@@ -11,7 +11,7 @@ use Rattle.scope.specs.Keeper.{mediumLength, sound}
 use Rattle.state.specs.State.{stateOf}
 use Rattle.state.specs.declared.Numbers.{Numbers}
 use Rattle.state.specs.declared.Phase as code
-use Rattle.state.proofs.Facts.{and-left, and-right, Sound, sound-facts}
+use Rattle.state.proofs.Facts.{and-left, and-right, Sound, sound-facts, medium-fits}
 use Rattle.journal.specs.Entries.{Rows}
 
 module _ (n : Numbers) (p : code.Phase) (s t f : Bool) (ss : s ≡ sound (stateOf n p)) (et : t ≡ (s && f)) (fit : t ≡ true) where
@@ -25,10 +25,6 @@ ruleset tests = (and-left, and-right, eqb-true)
 
 pub rows-fit : (n : Numbers) (p : code.Phase) (rows : List ℕ) (base x : ℕ) → Sound n p → base + 32 * n .slots ≤ length rows → 0 < x → Rows rows base (n .slots) x
 rows-fit n p rows base x s h i = omega arith
-
-pub medium-fits : (n : Numbers) (m : List ℕ) → eqb (length m) (mediumLength (n .cells) (n .slots)) ≡ true → length m ≡ 32 + 32 * n .slots + 8 * n .cells
-unfolding mediumLength
-medium-fits n m e = eqb-true _ _ e
 
 module _ (cells slots : ℕ) (current first last waiting : List ℕ) where
   pub desk-fits : (d : Bool)

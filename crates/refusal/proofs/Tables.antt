@@ -12,7 +12,7 @@ use lib.ListN.{length, getD}
 use Rattle.scope.specs.Bytes.{pick}
 use Rattle.scope.specs.Row.{Entry, isEntry, isUpdate}
 use Rattle.scope.specs.Keeper.{Keeper, isIdle, isRun, isRecovering, mediumLength, sound, mediumRow}
-use Rattle.scope.specs.Refusals.{RecoveryStep, Begin, Read, Write, Commit, Abort, Force, WriteBack, Cut, Look, lent, unfit, notUpdates, full, usedUp, anyFirst, tests, firstNo, refusal}
+use Rattle.scope.specs.Refusals.{Begin, Read, Write, Commit, Abort, Force, WriteBack, Cut, Look, lent, unfit, notUpdates, full, usedUp, anyFirst, tests, firstNo, refusal}
 use Rattle.scope.proofs.Refusals.{Numbered}
 use Rattle.scope.proofs.Row.{read-zero}
 use Rattle.state.specs.State.{phaseOf, stateOf}
@@ -21,7 +21,8 @@ use Rattle.state.specs.declared.Phase as code
 use Rattle.journal.specs.Entries.{entryIn}
 use Rattle.workspace.specs.Desk.{updatesFrom}
 use Rattle.workspace.proofs.Desks.{updates-keeper, waiting-entry}
-use Rattle.refusal.specs.Lent.{lentTo, notUpdatesIn, movedNo}
+use Rattle.state.specs.Lent.{lentTo}
+use Rattle.refusal.specs.Rows.{notUpdatesIn, movedNo}
 
 -- a table cut in two
 
@@ -42,26 +43,6 @@ late (x ∷ xs) ys n h = go (x .0) h (late xs ys (n .1))
     go true g rest = absurd (omega (arith, n .0))
     go false g rest = rest g
 
--- leaving at a test that holds, and passing one that doesn't
-
-pub unfit-stop : (t : Bool) (rest : ℕ) → t ≡ false → 1 ≡ pick (not t) 1 rest
-unfit-stop t rest e = simp e
-
-pub fit-pass : (t : Bool) (x rest : ℕ) → t ≡ true → x ≡ rest → x ≡ pick (not t) 1 rest
-fit-pass t x rest e q = simp e q
-
-pub stop : (t : Bool) (x rest : ℕ) → t ≡ true → x ≡ pick t x rest
-stop t x rest e = simp e
-
-pub pass : (t : Bool) (x y rest : ℕ) → t ≡ false → y ≡ rest → y ≡ pick t x rest
-pass t x y rest e q = simp e q
-
-pub not-true : (t : Bool) → t ≡ true → not t ≡ false
-not-true t e = simp e
-
-pub not-not : (t : Bool) → t ≡ false → not t ≡ true
-not-not t e = simp e
-
 -- rows that abort judges
 
 module _ (n : Numbers) (p : code.Phase) (waiting : List ℕ) (b : Bool) (e : b ≡ isRun (phaseOf p)) where
@@ -75,11 +56,6 @@ module _ (n : Numbers) (p : code.Phase) (waiting : List ℕ) (b : Bool) (e : b �
 
 module _ (n : Numbers) (p : code.Phase) (s t rec : Bool) (ss : s ≡ sound (stateOf n p)) (rr : rec ≡ isRecovering (phaseOf p)) where
   -- calls that ask all their tests at once
-
-  pub step-is : (m current : List ℕ) (a b f : Bool) (r r₁ : ℕ) → a ≡ eqb (length m) (mediumLength (n .cells) (n .slots)) → b ≡ eqb (length current) (n .cells)
-      → f ≡ (a && b) → t ≡ (s && f) → r₁ ≡ pick (not rec) 10 0 → r ≡ pick (not t) 1 r₁ → r ≡ refusal RecoveryStep (lentTo n p m current [] [] [])
-  unfolding refusal tests unfit lent lentTo stateOf
-  step-is m current a b f r r₁ ea eb ef et e₁ e = cc
 
   pub read-is : (cell : ℕ) (current : List ℕ) (f i : Bool) (r r₁ r₂ r₃ : ℕ) → f ≡ eqb (length current) (n .cells) → t ≡ (s && f) → i ≡ isIdle (phaseOf p)
       → r₃ ≡ pick (leb (n .cells) cell) 4 0 → r₂ ≡ pick i 3 r₃ → r₁ ≡ pick rec 10 r₂ → r ≡ pick (not t) 1 r₁ → r ≡ refusal (Read cell) (lentTo n p [] current [] [] [])

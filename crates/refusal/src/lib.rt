@@ -6,10 +6,11 @@ ghost use mathlib.Core.List.{[]};
 ghost use Prim.Native.Nat.{ℕ, _+_, _-_, _<_};
 ghost use Rattle.scope.specs.Bytes.{pick};
 ghost use Rattle.scope.specs.Keeper.{isRecovering};
-ghost use Rattle.scope.specs.Refusals.{RecoveryStep, Begin, Read, Write, Commit, Abort, Force, WriteBack, Cut, Look, refusal};
+ghost use Rattle.scope.specs.Refusals.{Begin, Read, Write, Commit, Abort, Force, WriteBack, Cut, Look, refusal};
 ghost use Rattle.state.specs.State.{phaseOf};
 ghost use Rattle.journal.specs.Entries.{Rows, entryIn};
-ghost use Rattle.refusal.specs.Lent.{lentTo, notUpdatesIn, movedNo};
+ghost use Rattle.state.specs.Lent.{lentTo};
+ghost use Rattle.refusal.specs.Rows.{notUpdatesIn, movedNo};
 use journal::entry_at;
 use medium::layout::index;
 use row::Entry;
@@ -24,24 +25,6 @@ use state::is_run;
 use state::refuse;
 use workspace::all_updates;
 use workspace::any_first;
-
-pub fn recovery_step(numbers: Numbers, phase: Phase, medium: &[u8], current: &[u64]) -> u32
-    ensures { λ r. ⌜ r ≡ refusal RecoveryStep (lentTo numbers phase (now (medium .entry)) (now (current .entry)) [] [] []) ⌝ }
-{
-    let lent = both(
-        numbers.fits_medium(medium.len()),
-        numbers.fits_cells(current.len()),
-    );
-    let fit = both(numbers.sound(phase), lent);
-    if fit {} else {
-        return 1;
-    }
-    let recovering = is_recovering(phase);
-    if recovering {
-        return 0;
-    }
-    10
-}
 
 pub fn read(numbers: Numbers, phase: Phase, cell: u32, current: &[u64]) -> u32
     ensures { λ r. ⌜ r ≡ refusal (Read cell) (lentTo numbers phase [] (now (current .entry)) [] [] []) ⌝ }

@@ -2,7 +2,7 @@
 use keeper::Answer;
 use keeper::Back;
 use keeper::State;
-use keeper::Step;
+use recovery::Step;
 use medium::head::format;
 use state::Numbers;
 use state::Phase;

@@ -3,7 +3,8 @@ use borrow.Author.Needs.{needs}
 use mathlib.Core.Path.{refl, sym, _∙_}
 use native.Mathlib.Omega.{arith}
 use Rattle.refusal.proofs.Lengths.{is-sound, is-lent, rows-fit, desk-fits}
-use Rattle.refusal.proofs.Tables.{abort-early, abort-late, begin-early, begin-late, unfit-stop, fit-pass, stop, pass}
+use Rattle.state.proofs.Exits.{unfit-stop, fit-pass, stop, pass}
+use Rattle.refusal.proofs.Tables.{abort-early, abort-late, begin-early, begin-late}
 use Rattle.refusal.proofs.begin.Statement.{statement}
 use Rattle.refusal.proofs.begin.Tie as tie
 

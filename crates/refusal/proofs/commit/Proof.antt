@@ -1,7 +1,8 @@
 -- `refusal::commit` meets its contract. All its tests, by congruence.
 use borrow.Author.Needs.{needs}
 use mathlib.Core.Path.{refl}
-use Rattle.refusal.proofs.Tables.{commit-is, unfit-stop, fit-pass, stop, pass}
+use Rattle.state.proofs.Exits.{unfit-stop, fit-pass, stop, pass}
+use Rattle.refusal.proofs.Tables.{commit-is}
 use Rattle.refusal.proofs.commit.Statement.{statement}
 use Rattle.refusal.proofs.commit.Tie as tie
 

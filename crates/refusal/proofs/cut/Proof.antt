@@ -2,9 +2,10 @@
 use borrow.Author.Needs.{needs}
 use mathlib.Core.Path.{refl, sym, _∙_}
 use native.Mathlib.Omega.{arith}
-use Rattle.state.proofs.Facts.{and-left}
-use Rattle.refusal.proofs.Lengths.{is-sound, is-lent, rows-fit, medium-fits}
-use Rattle.refusal.proofs.Tables.{cut-early, cut-middle, cut-late, unfit-stop, fit-pass, stop, pass}
+use Rattle.state.proofs.Facts.{and-left, medium-fits}
+use Rattle.refusal.proofs.Lengths.{is-sound, is-lent, rows-fit}
+use Rattle.state.proofs.Exits.{unfit-stop, fit-pass, stop, pass}
+use Rattle.refusal.proofs.Tables.{cut-early, cut-middle, cut-late}
 use Rattle.refusal.proofs.cut.Statement.{statement}
 use Rattle.refusal.proofs.cut.Tie as tie
 

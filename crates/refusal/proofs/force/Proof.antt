@@ -5,7 +5,8 @@ use native.Mathlib.Omega.{arith}
 use Rattle.journal.proofs.Meanings.{is-nothing, is-some}
 use Rattle.scope.specs.Row.{isEntry}
 use Rattle.refusal.proofs.Lengths.{is-sound, is-lent, rows-fit, pair-fits}
-use Rattle.refusal.proofs.Tables.{force-early, force-none, force-entry, force-other, unfit-stop, fit-pass, stop, pass}
+use Rattle.state.proofs.Exits.{unfit-stop, fit-pass, stop, pass}
+use Rattle.refusal.proofs.Tables.{force-early, force-none, force-entry, force-other}
 use Rattle.refusal.proofs.force.Statement.{statement}
 use Rattle.refusal.proofs.force.Tie as tie
 

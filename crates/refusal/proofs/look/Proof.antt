@@ -1,7 +1,8 @@
 -- `refusal::look` meets its contract. All its tests, by congruence.
 use borrow.Author.Needs.{needs}
 use mathlib.Core.Path.{refl}
-use Rattle.refusal.proofs.Tables.{look-is, unfit-stop, fit-pass, stop, pass}
+use Rattle.state.proofs.Exits.{unfit-stop, fit-pass, stop, pass}
+use Rattle.refusal.proofs.Tables.{look-is}
 use Rattle.refusal.proofs.look.Statement.{statement}
 use Rattle.refusal.proofs.look.Tie as tie
 

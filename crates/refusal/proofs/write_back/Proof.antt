@@ -4,7 +4,8 @@ use borrow.Author.Tests.{le-leb, lt-leb}
 use mathlib.Core.Path.{refl}
 use native.Mathlib.Omega.{arith}
 use Rattle.refusal.proofs.Lengths.{is-lent, back-fits}
-use Rattle.refusal.proofs.Tables.{back-early, back-late, unfit-stop, fit-pass, stop, pass}
+use Rattle.state.proofs.Exits.{unfit-stop, fit-pass, stop, pass}
+use Rattle.refusal.proofs.Tables.{back-early, back-late}
 use Rattle.refusal.proofs.write_back.Statement.{statement}
 use Rattle.refusal.proofs.write_back.Tie as tie
 

@@ -1,7 +1,6 @@
--- `recovery_step` is the papers' step: one law for each way that it ends; a step that isn't refused has its buffers' lengths, and the lowest differing cell is within.
+-- `recovery_step` hands on what the crate `recovery` leaves.
 use borrow.Author.Needs.{needs}
-use native.Mathlib.Omega.{arith}
-use Rattle.keeper.proofs.Recovering.{step-refused, stepping, step-inside, step-room, step-cell, step-last}
+use Rattle.keeper.proofs.Recoveries.{step-leaves}
 use Rattle.keeper.proofs.State.recovery_step.Statement.{statement}
 use Rattle.keeper.proofs.State.recovery_step.Tie as tie
 
@@ -12,85 +11,7 @@ same-length : tie.Need-same-length
 same-length c = search needs
 
 returns : tie.Need-returns
-returns c =
-    let a = c .before .before .before .before .before .before .args in
-    step-refused (a .self) (a .medium .now) (a .current .now) _ (c .before .recovery-step .ensures) (omega arith)
-
-lowest-differing-requires : tie.Need-lowest-differing-requires
-lowest-differing-requires c κs =
-    let a = c .before .before .before .before .before .before .before .args in
-    let f = stepping (a .self) (a .medium .now) (a .current .now) _ (c .before .before .recovery-step .ensures) (omega arith) in
-    omega arith
-
-enum-known-found : tie.Need-enum-known-found
-enum-known-found c = search needs
-
-index-requires : tie.Need-index-requires
-index-requires c κs = search needs
-
-mul-store-cell : tie.Need-mul-store-cell
-mul-store-cell c = search needs
-
-shared-slice-read-store-cell : tie.Need-shared-slice-read-store-cell
-shared-slice-read-store-cell c =
-    let g = c .before .before .before .before .before .before in
-    let d = g .before .before in
-    let a = d .before .before .before .before .before .before .args in
-    omega (arith, step-inside (a .self) (a .medium .now) (a .current .now) _ (d .before .recovery-step .ensures) (omega arith) _ (g .lowest-differing .ensures) _ (c .before .before .before .before .found .given .1))
-
-store-cell-requires : tie.Need-store-cell-requires
-store-cell-requires c κs =
-    let g = c .before .before .before .before .before .before in
-    let d = g .before .before in
-    let a = d .before .before .before .before .before .before .args in
-    step-room (a .self) (a .medium .now) (a .current .now) _ (d .before .recovery-step .ensures) (omega arith) _ (g .lowest-differing .ensures) _ (c .before .before .before .before .found .given .1)
-
-same-length-2 : tie.Need-same-length-2
-same-length-2 c = search needs
-
-returns-2 : tie.Need-returns-2
-returns-2 c =
-    let g = c .before .before .before .before .before .before .before .before .before in
-    let d = g .before .before in
-    let a = d .before .before .before .before .before .before .args in
-    step-cell (a .self) (a .medium .now) (a .current .now) _ (d .before .recovery-step .ensures) (omega arith) _ (g .lowest-differing .ensures) _ (c .before .before .before .before .before .before .before .found .given .1) _ _ (c .before .before .before .before .before .index .ensures .0) (c .before .before .store-cell .ensures)
-
-enum-told : tie.Need-enum-told
-enum-told c = search needs
-
-step-end-requires : tie.Need-step-end-requires
-step-end-requires c κs =
-    let d = c .before .before .before .before .before in
-    let a = d .before .before .before .before .before .before .args in
-    let f = stepping (a .self) (a .medium .now) (a .current .now) _ (d .before .recovery-step .ensures) (omega arith) in
-    omega arith
-
-same-length-3 : tie.Need-same-length-3
-same-length-3 c = search needs
-
-returns-3 : tie.Need-returns-3
-returns-3 c =
-    let g = c .before .before .before .before .before .before in
-    let d = g .before .before in
-    let a = d .before .before .before .before .before .before .args in
-    step-last (a .self) (a .medium .now) (a .current .now) _ (d .before .recovery-step .ensures) (omega arith) _ (g .lowest-differing .ensures) (c .before .before .before .before .enum-told .given .1) _ _ _ (c .before .before .step-end .ensures (a .current .now))
+returns c = step-leaves _ _ _ _ _ _ _ (c .before .before .before .recovery-step .ensures)
 
 pub recovery-step-spec : {M : Type 1} → statement M
-recovery-step-spec =
-    tie.close
-    (tie.spec
-    recovery-step-requires
-    same-length
-    returns
-    lowest-differing-requires
-    enum-known-found
-    index-requires
-    mul-store-cell
-    shared-slice-read-store-cell
-    store-cell-requires
-    same-length-2
-    returns-2
-    enum-told
-    step-end-requires
-    same-length-3
-    returns-3)
+recovery-step-spec = tie.close (tie.spec recovery-step-requires same-length returns)

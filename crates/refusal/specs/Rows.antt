@@ -1,4 +1,4 @@
--- The keeper that a call is handed and lent: a buffer that it isn't lent stands as an empty list, at which the call's definition does not look.
+-- What a refusal asks of rows, in the code's numbers.
 use Prim.Native.Nat.{ℕ, _-_}
 use mathlib.Core.Bool.{Bool, _&&_, not}
 use mathlib.Core.List.{List}
@@ -6,16 +6,12 @@ use mathlib.Core.Option.{Option}
 use lib.Dec.{eqb}
 use Rattle.scope.specs.Bytes.{pick}
 use Rattle.scope.specs.Row.{Entry, isEntry, isUpdate}
-use Rattle.scope.specs.Keeper.{Keeper, isRun}
-use Rattle.state.specs.State.{phaseOf, stateOf}
+use Rattle.scope.specs.Keeper.{isRun}
+use Rattle.state.specs.State.{phaseOf}
 use Rattle.state.specs.declared.Numbers.{Numbers}
 use Rattle.state.specs.declared.Phase.{Phase}
 use Rattle.journal.specs.Entries.{entryIn}
 use Rattle.workspace.specs.Desk.{updatesFrom}
-
-unfoldable pub lentTo : Numbers → Phase → List ℕ → List ℕ → List ℕ → List ℕ → List ℕ → Keeper
-lentTo n p medium current first last waiting =
-    record { medium = medium; current = current; first = first; last = last; waiting = waiting; state = stateOf n p }
 
 -- in run a waiting row of o+1 to l isn't that update
 unfoldable pub notUpdatesIn : Numbers → Phase → List ℕ → Bool

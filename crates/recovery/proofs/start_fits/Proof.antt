@@ -1,9 +1,9 @@
 -- `start_fits` judges head and workspaces: one law for each way that it ends.
 use borrow.Author.Needs.{needs}
 use native.Mathlib.Omega.{arith}
-use Rattle.keeper.proofs.Recovering.{head-fits, fits-head, fits-current, fits-first, fits-last, fits-rows}
-use Rattle.keeper.proofs.recovery.start_fits.Statement.{statement}
-use Rattle.keeper.proofs.recovery.start_fits.Tie as tie
+use Rattle.recovery.proofs.Recovering.{head-fits, fits-head, fits-current, fits-first, fits-last, fits-rows}
+use Rattle.recovery.proofs.start_fits.Statement.{statement}
+use Rattle.recovery.proofs.start_fits.Tie as tie
 
 head-ok-requires : tie.Need-head-ok-requires
 head-ok-requires c κs = search needs

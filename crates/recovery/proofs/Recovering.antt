@@ -1,7 +1,7 @@
 -- Recovery: one law for each way that a function ends, from the tests that led there; a start's table is the replay of the entries that scan counted.
 use Prim.Native.Nat.{ℕ, suc, _+_, _-_, _*_, _≤_, _<_}
 use mathlib.Core.Path.{_≡_, refl, sym, ap, _∙_}
-use mathlib.Core.Bool.{Bool, true, false, _&&_}
+use mathlib.Core.Bool.{Bool, true, false, _&&_, not}
 use mathlib.Core.List.{List, [], _∷_}
 use mathlib.Core.Option.{Option, none, some}
 use native.Mathlib.Omega.{arith}
@@ -9,11 +9,11 @@ use borrow.Author.Tests.{lt-ltb, le-ltb, eq-eqb, ne-eqb, leb-true, eqb-true}
 use lib.Dec.{eqb}
 use lib.ListN.{length, getD, replicate}
 use Rattle.scope.specs.Bytes.{pick, bytesOf, numberAt, put}
-use Rattle.scope.specs.Keeper.{Answer, recovering, done, refused, cell, head, clean, inRange, mediumLength, cellAt, headBytes, headOk, noState, withState, withMedium, madeTo, droppedTo, storeCell, storeHead}
+use Rattle.scope.specs.Keeper.{Answer, recovering, done, refused, cell, head, clean, inRange, mediumLength, cellAt, headBytes, headOk, noState, withState, withMedium, madeTo, droppedTo, storeCell, storeHead, isRecovering, sound}
 use Rattle.scope.specs.Recovery.{journal, replay, tableOf, differing}
 use Rattle.scope.specs.Refusals.{RecoveryStep, isMedium, isCells, lent, lentStart, unfit, tests, refusal}
 use Rattle.scope.specs.Calls.{startWith, unlessStart, recoveryStart, stepAt, recoveryStep}
-use Rattle.scope.proofs.Refusals.{refusal-none}
+use Rattle.scope.proofs.Refusals.{refusal-none, numbered-refused, numbered-done}
 use Rattle.scope.proofs.Sound.{fit-sound, fit-lent}
 use Rattle.medium.specs.Lent.{found}
 use Rattle.medium.specs.declared.table.Found.{Found}
@@ -23,17 +23,14 @@ use Rattle.replay.specs.Replay.{lastOf, upto, replayFrom}
 use Rattle.replay.specs.declared.scan.Counted.{Counted}
 use Rattle.replay.specs.declared.scan.Counted.the-variants.{Upto, Malformed}
 use Rattle.replay.proofs.Replaying.{replay-rows, Last, last-some, last-none, last-fits}
-use Rattle.state.specs.State.{stateOf}
+use Rattle.state.specs.State.{phaseOf, stateOf}
 use Rattle.state.specs.declared.Numbers.{Numbers}
+use Rattle.state.specs.declared.Phase.{Phase}
 use Rattle.state.specs.declared.Phase.the-variants.{Idle, Recovering}
-use Rattle.state.proofs.Facts.{and-left, and-right, sound-facts}
-use Rattle.refusal.specs.Lent.{lentTo}
-use Rattle.refusal.proofs.Lengths.{medium-fits}
-use Rattle.keeper.specs.Answers.{answered, handed, stateless, leaves}
-use Rattle.keeper.specs.declared.State.{State}
-use Rattle.keeper.specs.declared.Outcome.{Outcome}
-use Rattle.keeper.specs.declared.Answer.the-variants.{Done, Refused}
-use Rattle.keeper.proofs.Unless.{unless-refused, unless-done}
+use Rattle.state.proofs.Facts.{and-left, and-right, sound-facts, medium-fits}
+use Rattle.state.specs.Lent.{lentTo, stateless, left}
+use Rattle.recovery.specs.declared.Started.{Started}
+use Rattle.recovery.specs.Answers.{numbered}
 
 -- a head in rule
 pub record Head (m : List ℕ) : Type 0 where
@@ -83,10 +80,10 @@ module _ (m current first last waiting : List ℕ) where
   -- a start's three ends
 
   module _ (t : Bool) (e : t ≡ Fit) where
-    pub start-unfit : t ≡ false → (r : Outcome) → r ≡ record { answer = Refused 1; state = record { numbers = record { cells = 0; slots = 0; h = 0; f = 0; l = 0; o = 0 }; phase = Idle } }
-        → leaves (answered (r .answer)) (r .state) m current first last waiting ≡ recoveryStart (stateless m current first last waiting)
-    unfolding leaves handed lentTo stateOf stateless recoveryStart refusal tests unlessStart withState noState
-    start-unfit p r q = ap (λ x. leaves (answered (x .answer)) (x .state) m current first last waiting) q ∙ simp (← e, p)
+    pub start-unfit : t ≡ false → (r : Started) → r ≡ record { number = 1; numbers = record { cells = 0; slots = 0; h = 0; f = 0; l = 0; o = 0 }; phase = Idle }
+        → left (numbered (r .number)) (r .numbers) (r .phase) m current first last waiting ≡ recoveryStart (stateless m current first last waiting)
+    unfolding left lentTo stateOf stateless recoveryStart refusal tests unlessStart withState noState
+    start-unfit p r q = ap (λ x. left (numbered (x .number)) (x .numbers) (x .phase) m current first last waiting) q ∙ simp (← e, p)
 
     module _ (p : t ≡ true) where
       pub start-head : Head m
@@ -100,13 +97,13 @@ module _ (m current first last waiting : List ℕ) where
         counted : lastOf (numberAt 4 8 m) (journal (numberAt 4 0 m) (numberAt 4 4 m) (numberAt 4 8 m) m) ≡ upto u
         counted = sym (qu ∙ (λ i. lastOf (qh i) (journal (qn i) (qc i) (qh i) m)))
 
-        pub start-malformed : u ≡ Malformed → (r : Outcome)
-            → r ≡ record { answer = Refused 2; state = record { numbers = record { cells = 0; slots = 0; h = 0; f = 0; l = 0; o = 0 }; phase = Idle } }
-            → leaves (answered (r .answer)) (r .state) m current first last waiting ≡ recoveryStart (stateless m current first last waiting)
-        unfolding leaves handed lentTo stateOf stateless recoveryStart refusal tests unlessStart withState noState
+        pub start-malformed : u ≡ Malformed → (r : Started)
+            → r ≡ record { number = 2; numbers = record { cells = 0; slots = 0; h = 0; f = 0; l = 0; o = 0 }; phase = Idle }
+            → left (numbered (r .number)) (r .numbers) (r .phase) m current first last waiting ≡ recoveryStart (stateless m current first last waiting)
+        unfolding left lentTo stateOf stateless recoveryStart refusal tests unlessStart withState noState
         start-malformed g r q =
             let j = last-none m (numberAt 4 0 m) (numberAt 4 4 m) (numberAt 4 8 m) (counted ∙ ap upto g) in
-            ap (λ x. leaves (answered (x .answer)) (x .state) m current first last waiting) q ∙ simp (← e, p, j)
+            ap (λ x. left (numbered (x .number)) (x .numbers) (x .phase) m current first last waiting) q ∙ simp (← e, p, j)
 
         module _ (x : ℕ) (g : u ≡ Upto x) where
           pub start-upto : h < 4294967296 → h ≤ x
@@ -128,16 +125,16 @@ module _ (m current first last waiting : List ℕ) where
               ∙ replay-rows m (numberAt 4 0 m) (numberAt 4 4 m) (numberAt 4 8 m) (read .entries) _ (read .read)
 
           pub start-done : (loaded current′ first′ last′ : List ℕ) → loaded ≡ tableOf (length current) c m → current′ ≡ replayFrom (entryIn m 32 c n) (x - h) h h loaded
-              → first′ ≡ replicate (length first) 0 → last′ ≡ replicate (length last) 0 → (r : Outcome)
-              → r ≡ record { answer = Done 0; state = record { numbers = record { cells = n; slots = c; h = h; f = x; l = x; o = x }; phase = Recovering } }
-              → leaves (answered (r .answer)) (r .state) m current′ first′ last′ waiting ≡ recoveryStart (stateless m current first last waiting)
-          unfolding leaves handed lentTo stateOf stateless startWith
+              → first′ ≡ replicate (length first) 0 → last′ ≡ replicate (length last) 0 → (r : Started)
+              → r ≡ record { number = 0; numbers = record { cells = n; slots = c; h = h; f = x; l = x; o = x }; phase = Recovering }
+              → left (numbered (r .number)) (r .numbers) (r .phase) m current′ first′ last′ waiting ≡ recoveryStart (stateless m current first last waiting)
+          unfolding left lentTo stateOf stateless startWith
           start-done loaded current′ first′ last′ ql qr qf qg r q =
               let a = replayed loaded current′ ql qr in
               let b = qf ∙ ap (λ i. replicate {A = ℕ} i 0) (start-lent .1) in
               let d = qg ∙ ap (λ i. replicate {A = ℕ} i 0) (start-lent .2) in
               let l : x ≡ numberAt 4 8 m + length (read .entries) = read .last in
-              ap (λ y. leaves (answered (y .answer)) (y .state) m current′ first′ last′ waiting) q
+              ap (λ y. left (numbered (y .number)) (y .numbers) (y .phase) m current′ first′ last′ waiting) q
               ∙ (λ i. record {
                 answer = done 0;
                 keeper = record {
@@ -151,21 +148,27 @@ module _ (m current first last waiting : List ℕ) where
               })
               ∙ accepted
 
+-- a step's refusal: all its tests, by congruence
+
+module _ (n : Numbers) (p : Phase) (s t rec : Bool) (ss : s ≡ sound (stateOf n p)) (rr : rec ≡ isRecovering (phaseOf p)) where
+  pub refusal-is : (m current : List ℕ) (a b f : Bool) (r r₁ : ℕ) → a ≡ eqb (length m) (mediumLength (n .cells) (n .slots)) → b ≡ eqb (length current) (n .cells)
+      → f ≡ (a && b) → t ≡ (s && f) → r₁ ≡ pick (not rec) 10 0 → r ≡ pick (not t) 1 r₁ → r ≡ refusal RecoveryStep (lentTo n p m current [] [] [])
+  unfolding refusal tests unfit lent lentTo stateOf
+  refusal-is m current a b f r r₁ ea eb ef et e₁ e = cc
+
 -- a step's ends
 
-module _ (s : State) (m current : List ℕ) where
-  pub end-clean : s .numbers .l ≤ s .numbers .h
-      → leaves clean (record { numbers = s .numbers; phase = Idle }) m current [] [] [] ≡ stepAt none (handed s m current [] [] [])
-  unfolding leaves handed lentTo stateOf stepAt withState madeTo
-  end-clean h = simp (le-ltb (s .numbers .h) (s .numbers .l) h)
+module _ (n : Numbers) (p : Phase) (m current : List ℕ) where
+  pub end-clean : n .l ≤ n .h
+      → left clean n Idle m current [] [] [] ≡ stepAt none (lentTo n p m current [] [] [])
+  unfolding left lentTo stateOf stepAt withState madeTo
+  end-clean h = simp (le-ltb (n .h) (n .l) h)
 
-  pub end-head : s .numbers .h < s .numbers .l → (m′ : List ℕ) → m′ ≡ put m 0 (headBytes (s .numbers .cells) (s .numbers .slots) (s .numbers .l))
-      → leaves head
-      (record { numbers = record { cells = s .numbers .cells; slots = s .numbers .slots; h = s .numbers .l; f = s .numbers .f; l = s .numbers .l; o = s .numbers .o }; phase = Idle })
-      m′ current [] [] []
-      ≡ stepAt none (handed s m current [] [] [])
-  unfolding leaves handed lentTo stateOf stepAt withState withMedium droppedTo storeHead
-  end-head h m′ q = simp (lt-ltb (s .numbers .h) (s .numbers .l) h, q)
+  pub end-head : n .h < n .l → (m′ : List ℕ) → m′ ≡ put m 0 (headBytes (n .cells) (n .slots) (n .l))
+      → left head (record { cells = n .cells; slots = n .slots; h = n .l; f = n .f; l = n .l; o = n .o }) Idle m′ current [] [] []
+      ≡ stepAt none (lentTo n p m current [] [] [])
+  unfolding left lentTo stateOf stepAt withState withMedium droppedTo storeHead
+  end-head h m′ q = simp (lt-ltb (n .h) (n .l) h, q)
 
 lowest-below : (xs ys : List ℕ) (i c : ℕ) → differing xs ys i ≡ some c → c < i + length ys
 unfolding differing
@@ -183,50 +186,50 @@ pub record Stepping (n : Numbers) (m current : List ℕ) : Type 0 where
   pub in-medium : length m ≡ 32 + 32 * n .slots + 8 * n .cells
   pub in-current : length current ≡ n .cells
 
-module _ (s : State) (m current : List ℕ) (no : ℕ) (e : no ≡ refusal RecoveryStep (lentTo (s .numbers) (s .phase) m current [] [] [])) where
-  pub step-refused : (no ≡ 0 → ⊥) → leaves (refused no) s m current [] [] [] ≡ recoveryStep (handed s m current [] [] [])
-  unfolding leaves handed recoveryStep
-  step-refused h = unless-refused RecoveryStep (lentTo (s .numbers) (s .phase) m current [] [] []) _ no e h
+module _ (n : Numbers) (p : Phase) (m current : List ℕ) (no : ℕ) (e : no ≡ refusal RecoveryStep (lentTo n p m current [] [] [])) where
+  pub step-refused : (no ≡ 0 → ⊥) → left (refused no) n p m current [] [] [] ≡ recoveryStep (lentTo n p m current [] [] [])
+  unfolding left recoveryStep
+  step-refused h = numbered-refused RecoveryStep (lentTo n p m current [] [] []) _ no e h
 
   module _ (h : no ≡ 0) where
-    pub stepping : Stepping (s .numbers) m current
+    pub stepping : Stepping n m current
     unfolding refusal tests unfit lent lentTo stateOf
     stepping =
-        let k = lentTo (s .numbers) (s .phase) m current [] [] [] in
+        let k = lentTo n p m current [] [] [] in
         let t = refusal-none RecoveryStep k (sym e ∙ h) in
-        let f = sound-facts (s .numbers) (s .phase) (fit-sound RecoveryStep k (t .0)) in
+        let f = sound-facts n p (fit-sound RecoveryStep k (t .0)) in
         let l = fit-lent RecoveryStep k (t .0) in
         record {
           few-cells = f .cells≤;
-          in-medium = medium-fits (s .numbers) m (and-left (isMedium k) (isCells k current) l);
+          in-medium = medium-fits n m (and-left (isMedium k) (isCells k current) l);
           in-current = eqb-true _ _ (and-right (isMedium k) (isCells k current) l);
         }
 
-    module _ (u : Found) (d : found u ≡ differing (tableOf (length current) (s .numbers .slots) m) current 0) where
-      step-is : (o : Option ℕ) → found u ≡ o → stepAt o (handed s m current [] [] []) ≡ recoveryStep (handed s m current [] [] [])
-      unfolding recoveryStep handed lentTo stateOf
+    module _ (u : Found) (d : found u ≡ differing (tableOf (length current) (n .slots) m) current 0) where
+      step-is : (o : Option ℕ) → found u ≡ o → stepAt o (lentTo n p m current [] [] []) ≡ recoveryStep (lentTo n p m current [] [] [])
+      unfolding recoveryStep lentTo stateOf
       step-is o q =
-          let z : o ≡ differing (tableOf (s .numbers .cells) (s .numbers .slots) m) current 0 =
-          sym q ∙ d ∙ ap (λ i. differing (tableOf i (s .numbers .slots) m) current 0) (stepping .in-current) in
-          ap (λ i. stepAt i (lentTo (s .numbers) (s .phase) m current [] [] [])) z
-          ∙ unless-done RecoveryStep (lentTo (s .numbers) (s .phase) m current [] [] []) _ no e h
+          let z : o ≡ differing (tableOf (n .cells) (n .slots) m) current 0 =
+          sym q ∙ d ∙ ap (λ i. differing (tableOf i (n .slots) m) current 0) (stepping .in-current) in
+          ap (λ i. stepAt i (lentTo n p m current [] [] [])) z
+          ∙ numbered-done RecoveryStep (lentTo n p m current [] [] []) _ no e h
 
       module _ (c : ℕ) (q : u ≡ At c) where
         pub step-inside : c < length current
         step-inside = omega (arith, lowest-below _ current 0 c (sym d ∙ ap found q))
 
-        pub step-room : cellAt (s .numbers .slots) c + 8 ≤ length m
+        pub step-room : cellAt (n .slots) c + 8 ≤ length m
         unfolding cellAt
         step-room = let i = step-inside in let f = stepping in omega (arith, f .in-medium, f .in-current)
 
-        pub step-cell : (at : ℕ) (m′ : List ℕ) → at ≡ c → m′ ≡ put m (cellAt (s .numbers .slots) c) (bytesOf 8 (getD current at 0))
-            → leaves (cell c) s m′ current [] [] [] ≡ recoveryStep (handed s m current [] [] [])
-        unfolding leaves handed lentTo stateOf stepAt storeCell withMedium
+        pub step-cell : (at : ℕ) (m′ : List ℕ) → at ≡ c → m′ ≡ put m (cellAt (n .slots) c) (bytesOf 8 (getD current at 0))
+            → left (cell c) n p m′ current [] [] [] ≡ recoveryStep (lentTo n p m current [] [] [])
+        unfolding left lentTo stateOf stepAt storeCell withMedium
         step-cell at m′ qa qm =
-            let z = qm ∙ ap (λ i. put m (cellAt (s .numbers .slots) c) (bytesOf 8 (getD current i 0))) qa in
-            ap (λ i. leaves (cell c) s i current [] [] []) z ∙ step-is (some c) (ap found q)
+            let z = qm ∙ ap (λ i. put m (cellAt (n .slots) c) (bytesOf 8 (getD current i 0))) qa in
+            ap (λ i. left (cell c) n p i current [] [] []) z ∙ step-is (some c) (ap found q)
 
-      pub step-last : u ≡ Nothing → (a : Answer) (s′ : State) (m′ : List ℕ)
-          → leaves a s′ m′ current [] [] [] ≡ stepAt none (handed s m current [] [] [])
-          → leaves a s′ m′ current [] [] [] ≡ recoveryStep (handed s m current [] [] [])
-      step-last q a s′ m′ p = p ∙ step-is none (ap found q)
+      pub step-last : u ≡ Nothing → (a : Answer) (n′ : Numbers) (p′ : Phase) (m′ : List ℕ)
+          → left a n′ p′ m′ current [] [] [] ≡ stepAt none (lentTo n p m current [] [] [])
+          → left a n′ p′ m′ current [] [] [] ≡ recoveryStep (lentTo n p m current [] [] [])
+      step-last q a n′ p′ m′ r = r ∙ step-is none (ap found q)

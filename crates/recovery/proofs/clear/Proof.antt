@@ -6,8 +6,8 @@ use mathlib.Core.List.{_++_}
 use mathlib.Core.Path.{_≡_, refl}
 use native.Mathlib.Omega.{arith}
 use Rattle.medium.proofs.Heads.{clear-again, clear-end}
-use Rattle.keeper.proofs.recovery.clear.Statement.{statement}
-use Rattle.keeper.proofs.recovery.clear.Tie as tie
+use Rattle.recovery.proofs.clear.Statement.{statement}
+use Rattle.recovery.proofs.clear.Tie as tie
 
 abbrev Inv-loop : tie.InvT-loop
 Inv-loop s₀ i₀ s i = (i ≤ length s₀) × ((length s ≡ length s₀) × (s ≡ replicate i 0 ++ drop i s₀))
