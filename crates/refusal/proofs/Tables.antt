@@ -50,6 +50,17 @@ unfit-stop t rest e = simp e
 pub fit-pass : (t : Bool) (x rest : ℕ) → t ≡ true → x ≡ rest → x ≡ pick (not t) 1 rest
 fit-pass t x rest e q = simp e q
 
+-- a call that asks whether the state is sound, and then what it is lent
+module _ (s f : Bool) where
+  pub unsound : s ≡ false → (s && f) ≡ false
+  unsound e = simp e
+
+  pub unlent : s ≡ true → f ≡ false → (s && f) ≡ false
+  unlent e q = simp (e, q)
+
+  pub fit : s ≡ true → f ≡ true → (s && f) ≡ true
+  fit e q = simp (e, q)
+
 pub stop : (t : Bool) (x rest : ℕ) → t ≡ true → x ≡ pick t x rest
 stop t x rest e = simp e
 
