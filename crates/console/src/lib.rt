@@ -4,10 +4,10 @@ use keeper::Answer;
 use keeper::Back;
 use keeper::Outcome;
 use keeper::State;
-use recovery::Step;
 use keeper::Stepped;
 use keeper::WrittenBack;
 use medium::layout::cell_at;
+use recovery::Step;
 
 pub const BEGIN: u32 = 0;
 

@@ -43,6 +43,17 @@ late (x ∷ xs) ys n h = go (x .0) h (late xs ys (n .1))
     go true g rest = absurd (omega (arith, n .0))
     go false g rest = rest g
 
+-- a call that asks whether the state is sound, and then what it is lent
+module _ (s f : Bool) where
+  pub unsound : s ≡ false → (s && f) ≡ false
+  unsound e = simp e
+
+  pub unlent : s ≡ true → f ≡ false → (s && f) ≡ false
+  unlent e q = simp (e, q)
+
+  pub fit : s ≡ true → f ≡ true → (s && f) ≡ true
+  fit e q = simp (e, q)
+
 -- rows that abort judges
 
 module _ (n : Numbers) (p : code.Phase) (waiting : List ℕ) (b : Bool) (e : b ≡ isRun (phaseOf p)) where

@@ -1,5 +1,6 @@
 // The number that each call refuses with, 0 where it is done: the papers' table, each call's tests in their order, one after the other,
 // so that a call leaves at the first that holds. A function here changes nothing and is total: the calls ask it first.
+// Abort and cut leave at a state that is not sound before they look at what they are lent: that is quicker there, and slower in begin.
 ghost use mathlib.Core.Path.{_≡_};
 ghost use mathlib.Core.Bool.{not};
 ghost use mathlib.Core.List.{[]};
@@ -125,9 +126,12 @@ pub fn abort(
 ) -> u32
     ensures { λ r. ⌜ r ≡ refusal Abort (lentTo numbers phase [] (now (current .entry)) (now (first .entry)) (now (last .entry)) (now (waiting .entry))) ⌝ }
 {
+    let good = numbers.sound(phase);
+    if good {} else {
+        return 1;
+    }
     let lent = numbers.fits_desk(current.len(), first.len(), last.len(), waiting.len());
-    let fit = both(numbers.sound(phase), lent);
-    if fit {} else {
+    if lent {} else {
         return 1;
     }
     let recovering = is_recovering(phase);
@@ -259,20 +263,23 @@ fn cut_row(numbers: Numbers, p: u32, medium: &[u8]) -> u32
 pub fn cut(numbers: Numbers, phase: Phase, p: u32, medium: &[u8], first: &[u32]) -> u32
     ensures { λ r. ⌜ r ≡ refusal (Cut p) (lentTo numbers phase (now (medium .entry)) [] (now (first .entry)) [] []) ⌝ }
 {
+    let good = numbers.sound(phase);
+    if good {} else {
+        return 1;
+    }
     let lent = both(
         numbers.fits_medium(medium.len()),
         numbers.fits_cells(first.len()),
     );
-    let fit = both(numbers.sound(phase), lent);
-    // p below h, above f or above o
-    let out = either(p < numbers.h, either(numbers.f < p, numbers.o < p));
-    if fit {} else {
+    if lent {} else {
         return 1;
     }
     let recovering = is_recovering(phase);
     if recovering {
         return 10;
     }
+    // p below h, above f or above o
+    let out = either(p < numbers.h, either(numbers.f < p, numbers.o < p));
     if out {
         return 9;
     }

@@ -1,13 +1,14 @@
--- Reading a row, one law for each way that it ends: the tests that led there, put into the definition.
+-- Reading a row, one law for each way that it ends: the tests that led there, put into the definition. The three
+-- zero bytes after the kind are judged with it, as one number.
 use Prim.Native.Nat.{ℕ, _+_, _*_, _≤_, _<_}
-use mathlib.Core.Path.{_≡_, refl, _∙_}
+use mathlib.Core.Path.{_≡_, refl, sym, _∙_}
 use mathlib.Core.Bool.{Bool, true, false, _&&_}
 use mathlib.Core.List.{List}
 use mathlib.Core.Option.{Option, none, some}
 use native.Mathlib.Omega.{arith}
-use borrow.Author.Tests.{lt-ltb, le-ltb, le-leb, lt-leb, eq-eqb, ne-eqb}
-use lib.Dec.{eqb}
-use lib.ListN.{length, getD}
+use borrow.Author.Tests.{eqb-true, eqb-false, lt-ltb, le-ltb, le-leb, lt-leb, eq-eqb, ne-eqb}
+use lib.Dec.{eqb, ltb}
+use lib.ListN.{length}
 use Rattle.scope.specs.Bytes.{pick, numberAt}
 use Rattle.scope.specs.Row.{Entry, update, commitEntry, abortEntry, entryOf, readRow}
 use Rattle.row.specs.Row.{isBare}
@@ -30,6 +31,10 @@ module _ (c a b : ℕ) where
 
 -- kinds
 
+either : (t : Bool) → none ≡ pick {A = Option Entry} t none none
+either true = refl
+either false = refl
+
 module _ (kind c a b : ℕ) where
   pub of-update : kind ≡ 1 → some (update c a b) ≡ entryOf kind c a b
   unfolding entryOf
@@ -48,26 +53,9 @@ module _ (kind c a b : ℕ) where
     unfolding entryOf isBare
     of-laden p h = simp (ne-eqb kind 1 h, ← e, p)
 
-  either : (t : Bool) → none ≡ pick {A = Option Entry} t none none
-  either true = refl
-  either false = refl
-
   pub of-unknown : (kind ≡ 1 → ⊥) → (kind ≡ 2 → ⊥) → (kind ≡ 3 → ⊥) → none ≡ entryOf kind c a b
   unfolding entryOf
   of-unknown h i j = simp (ne-eqb kind 1 h, ne-eqb kind 2 i, ne-eqb kind 3 j) (either (eqb c 0 && (eqb a 0 && eqb b 0)))
-
--- the kind byte and the three zero bytes after it
-
-module _ (r : List ℕ) (h : 32 ≤ length r) where
-  none-left : (at : ℕ) → numberAt 0 at r ≡ 0
-  unfolding numberAt Rattle.scope.specs.Bytes.numberOf
-  none-left at = refl
-
-  pub kind-byte : numberAt 1 4 r ≡ getD r 4 0
-  kind-byte = omega (arith, number-suc r 0 4 5 (omega arith) (omega arith), none-left 5)
-
-  pub lead-bytes : numberAt 4 4 r ≡ getD r 4 0 + 256 * numberAt 3 5 r
-  lead-bytes = number-suc r 3 4 5 (omega arith) (omega arith)
 
 -- a row
 
@@ -76,10 +64,18 @@ module _ (cells n : ℕ) (r : List ℕ) where
   unfolding readRow
   row-short h = simp (lt-leb 32 (length r) h)
 
+  none-left : (at : ℕ) → numberAt 0 at r ≡ 0
+  unfolding numberAt Rattle.scope.specs.Bytes.numberOf
+  none-left at = refl
+
   module _ (h : 32 ≤ length r) where
     pub row-zero : n ≡ 0 → none ≡ readRow cells n r
     unfolding readRow
     row-zero i = simp (le-leb 32 (length r) h, le-ltb 0 n (omega arith))
+
+    -- the kind byte and the three bytes after it
+    kind-bytes : numberAt 4 4 r ≡ numberAt 1 4 r + 256 * numberAt 3 5 r
+    kind-bytes = omega (arith, number-suc r 3 4 5 (omega arith) (omega arith), number-suc r 0 4 5 (omega arith) (omega arith), none-left 5)
 
     module _ (p : 0 < n) where
       pub row-other : (numberAt 4 0 r ≡ n → ⊥) → none ≡ readRow cells n r
@@ -87,58 +83,32 @@ module _ (cells n : ℕ) (r : List ℕ) where
       row-other i = simp (le-leb 32 (length r) h, lt-ltb 0 n p, ne-eqb (numberAt 4 0 r) n i)
 
       module _ (q : numberAt 4 0 r ≡ n) where
-        pub row-filler : (k : ℕ) → k ≡ getD r 4 0 → (numberAt 4 4 r ≡ k → ⊥) → none ≡ readRow cells n r
+        -- the three bytes are judged with the kind: where one isn't zero, the four are no kind
+        row-joined : (t : Bool) → eqb (numberAt 3 5 r) 0 ≡ t
+            → readRow cells n r ≡ pick (ltb (numberAt 4 8 r) cells && eqb (numberAt 4 12 r) 0) (entryOf (numberAt 4 4 r) (numberAt 4 8 r) (numberAt 8 16 r) (numberAt 8 24 r)) none
         unfolding readRow
-        row-filler k i j =
+        row-joined true z =
+            let e : numberAt 4 4 r ≡ numberAt 1 4 r = omega (arith, kind-bytes, eqb-true (numberAt 3 5 r) 0 z) in
+            simp (le-leb 32 (length r) h, lt-ltb 0 n p, eq-eqb (numberAt 4 0 r) n q, z, e)
+        row-joined false z =
+            let w = eqb-false (numberAt 3 5 r) 0 z in
             simp (
               le-leb 32 (length r) h,
               lt-ltb 0 n p,
               eq-eqb (numberAt 4 0 r) n q,
-              ne-eqb (numberAt 3 5 r) 0 (λ z. j (omega (arith, lead-bytes r h))),
-            )
+              z,
+              ← of-unknown (numberAt 4 4 r) (numberAt 4 8 r) (numberAt 8 16 r) (numberAt 8 24 r) (omega (arith, kind-bytes)) (omega (arith, kind-bytes)) (omega (arith, kind-bytes)),
+            ) (either (ltb (numberAt 4 8 r) cells && eqb (numberAt 4 12 r) 0))
 
-        module _ (k : ℕ) (i : k ≡ getD r 4 0) (j : numberAt 4 4 r ≡ k) where
-          filler : numberAt 3 5 r ≡ 0
-          filler = omega (arith, lead-bytes r h)
+        pub row-outside : cells ≤ numberAt 4 8 r → none ≡ readRow cells n r
+        row-outside o = sym (row-joined _ refl ∙ simp (le-ltb (numberAt 4 8 r) cells o))
 
-          pub row-outside : cells ≤ numberAt 4 8 r → none ≡ readRow cells n r
-          unfolding readRow
-          row-outside o =
-              simp (
-                le-leb 32 (length r) h,
-                lt-ltb 0 n p,
-                eq-eqb (numberAt 4 0 r) n q,
-                eq-eqb (numberAt 3 5 r) 0 filler,
-                le-ltb (numberAt 4 8 r) cells o,
-              )
+        module _ (o : numberAt 4 8 r < cells) where
+          pub row-gap : (numberAt 4 12 r ≡ 0 → ⊥) → none ≡ readRow cells n r
+          row-gap g = sym (row-joined _ refl ∙ simp (lt-ltb (numberAt 4 8 r) cells o, ne-eqb (numberAt 4 12 r) 0 g))
 
-          module _ (o : numberAt 4 8 r < cells) where
-            pub row-gap : (numberAt 4 12 r ≡ 0 → ⊥) → none ≡ readRow cells n r
-            unfolding readRow
-            row-gap g =
-                simp (
-                  le-leb 32 (length r) h,
-                  lt-ltb 0 n p,
-                  eq-eqb (numberAt 4 0 r) n q,
-                  eq-eqb (numberAt 3 5 r) 0 filler,
-                  lt-ltb (numberAt 4 8 r) cells o,
-                  ne-eqb (numberAt 4 12 r) 0 g,
-                )
-
-            pub row-read : numberAt 4 12 r ≡ 0 → (e : Option Entry) → e ≡ entryOf k (numberAt 4 8 r) (numberAt 8 16 r) (numberAt 8 24 r) → e ≡ readRow cells n r
-            unfolding readRow
-            row-read g e f =
-                f
-                ∙ simp (
-                  le-leb 32 (length r) h,
-                  lt-ltb 0 n p,
-                  eq-eqb (numberAt 4 0 r) n q,
-                  eq-eqb (numberAt 3 5 r) 0 filler,
-                  lt-ltb (numberAt 4 8 r) cells o,
-                  eq-eqb (numberAt 4 12 r) 0 g,
-                  kind-byte r h,
-                  i,
-                )
+          pub row-read : numberAt 4 12 r ≡ 0 → entryOf (numberAt 4 4 r) (numberAt 4 8 r) (numberAt 8 16 r) (numberAt 8 24 r) ≡ readRow cells n r
+          row-read g = sym (row-joined _ refl ∙ simp (lt-ltb (numberAt 4 8 r) cells o, eq-eqb (numberAt 4 12 r) 0 g))
 
 -- an entry of a row's fields
 pub of-fields : (k c a b k′ c′ a′ b′ : ℕ) (e : Option Entry) → e ≡ entryOf k c a b → k ≡ k′ → c ≡ c′ → a ≡ a′ → b ≡ b′ → e ≡ entryOf k′ c′ a′ b′

@@ -44,26 +44,23 @@ fn bare(cell: u32, old: u64, new: u64) -> bool
 }
 
 // An entry by its kind.
-fn of_kind(kind: u8, cell: u32, old: u64, new: u64) -> Row
+fn of_kind(kind: u32, cell: u32, old: u64, new: u64) -> Row
     ensures { λ r. ⌜ meaning r ≡ entryOf kind cell old new ⌝ }
 {
-    let end = bare(cell, old, new);
-    match kind {
-        1 => Row::Holds(Entry::Update { cell, old, new }),
-        2 => {
-            if end {
-                return Row::Holds(Entry::Commit);
-            }
-            Row::Nothing
-        }
-        3 => {
-            if end {
-                return Row::Holds(Entry::Abort);
-            }
-            Row::Nothing
-        }
-        0 | 4..=255 => Row::Nothing,
+    if kind == 1 {
+        return Row::Holds(Entry::Update { cell, old, new });
     }
+    let end = bare(cell, old, new);
+    if end {} else {
+        return Row::Nothing;
+    }
+    if kind == 2 {
+        return Row::Holds(Entry::Commit);
+    }
+    if kind == 3 {
+        return Row::Holds(Entry::Abort);
+    }
+    Row::Nothing
 }
 
 // Reads the first 32 bytes of a slice as entry `number` of a table of `cells` cells. A shorter slice reads as nothing.
@@ -81,11 +78,8 @@ pub fn read_row(row: &[u8], cells: u32, number: u32) -> Row
     if found != number {
         return Row::Nothing;
     }
-    let kind = row[4];
-    let lead = number::get4(row, 4);
-    if lead != number::wide(kind) {
-        return Row::Nothing;
-    }
+    // the kind byte with the three after it: only 1, 2 and 3 are kinds
+    let kind = number::get4(row, 4);
     let cell = number::get4(row, 8);
     if cells <= cell {
         return Row::Nothing;

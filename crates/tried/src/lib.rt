@@ -2,8 +2,8 @@
 use keeper::Answer;
 use keeper::Back;
 use keeper::State;
-use recovery::Step;
 use medium::head::format;
+use recovery::Step;
 use state::Numbers;
 use state::Phase;
 

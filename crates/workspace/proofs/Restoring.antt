@@ -1,7 +1,7 @@
 -- What one waiting row does to the workspaces, by what it reads as, and one turn of each loop, by peeling its definition.
 use Prim.Native.Nat.{ℕ, suc, _+_, _-_, _≤_, _<_}
 use mathlib.Core.Path.{_≡_, refl, sym, ap, _∙_}
-use mathlib.Core.Bool.{Bool, true, false, _&&_, _||_, false≢true}
+use mathlib.Core.Bool.{Bool, true, false, _&&_, _||_, or-true, or-false, false≢true}
 use mathlib.Core.List.{List}
 use mathlib.Core.Option.{Option, none, some}
 use native.Mathlib.Omega.{arith}
@@ -72,20 +72,21 @@ module _ (e : ℕ → Option Entry) (o : ℕ) (B : Bool) (m : ℕ) (p : B ≡ up
   unfolding updatesFrom
   updates-end h = let z : m - o ≡ 0 = omega arith in sym (p ∙ rw z)
 
-module _ (p : ℕ) (first : List ℕ) (B : Bool) (i : ℕ) (e : B ≡ anyFirst p (drop i first)) where
-  first-cons : i < length first → B ≡ ((ltb 0 (getD first i 0) && leb (getD first i 0) p) || anyFirst p (drop (i + 1) first))
+module _ (p : ℕ) (first : List ℕ) (B found : Bool) (i : ℕ) (e : B ≡ (found || anyFirst p (drop i first))) where
+  first-cons : i < length first → B ≡ (found || ((ltb 0 (getD first i 0) && leb (getD first i 0) p) || anyFirst p (drop (i + 1) first)))
   unfolding anyFirst
   first-cons h = e ∙ rw (drop-cons first i 0 h, add-one)
 
-  pub first-found : i < length first → 0 < getD first i 0 → getD first i 0 ≤ p → true ≡ B
-  first-found h a b = sym (first-cons h ∙ simp (lt-ltb 0 (getD first i 0) a, le-leb (getD first i 0) p b))
+  module _ (h : i < length first) (f : Bool) where
+    pub first-found : 0 < getD first i 0 → getD first i 0 ≤ p → f ≡ true → B ≡ (f || anyFirst p (drop (i + 1) first))
+    first-found a b q = first-cons h ∙ simp (lt-ltb 0 (getD first i 0) a, le-leb (getD first i 0) p b, or-true, q)
 
-  pub first-zero : i < length first → getD first i 0 ≤ 0 → B ≡ anyFirst p (drop (i + 1) first)
-  first-zero h a = first-cons h ∙ simp (le-ltb 0 (getD first i 0) a)
+    pub first-above : 0 < getD first i 0 → p < getD first i 0 → f ≡ found → B ≡ (f || anyFirst p (drop (i + 1) first))
+    first-above a b q = first-cons h ∙ simp (lt-ltb 0 (getD first i 0) a, lt-leb (getD first i 0) p b, q)
 
-  pub first-above : i < length first → 0 < getD first i 0 → p < getD first i 0 → B ≡ anyFirst p (drop (i + 1) first)
-  first-above h a b = first-cons h ∙ simp (lt-ltb 0 (getD first i 0) a, lt-leb (getD first i 0) p b)
+    pub first-zero : getD first i 0 ≤ 0 → f ≡ found → B ≡ (f || anyFirst p (drop (i + 1) first))
+    first-zero a q = first-cons h ∙ simp (le-ltb 0 (getD first i 0) a, q)
 
-  pub first-end : length first ≤ i → false ≡ B
+  pub first-end : length first ≤ i → found ≡ B
   unfolding anyFirst
-  first-end h = sym (e ∙ rw (drop-of-length-le first h))
+  first-end h = sym (e ∙ rw (drop-of-length-le first h) (or-false found))

@@ -118,19 +118,20 @@ pub fn all_updates(waiting: &[u8], slots: u32, cells: u32, o: u32, l: u32) -> bo
     true
 }
 
-// Whether some cell has 0 < `first` <= p. Goes once over the cells.
+// Whether some cell has 0 < `first` <= p. Goes once over all cells: without an exit on the way the loop is quicker.
 pub fn any_first(first: &[u32], p: u32) -> bool
     ensures { λ r. ⌜ r ≡ anyFirst p (now (first .entry)) ⌝ }
 {
+    let mut found = false;
     let mut i = 0;
     while i < first.len() {
         let mark = first[i];
         if 0 < mark {
             if mark <= p {
-                return true;
+                found = true;
             }
         }
         i += 1;
     }
-    false
+    found
 }

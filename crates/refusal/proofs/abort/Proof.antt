@@ -1,50 +1,55 @@
--- `refusal::abort` meets its contract. The table cut after its first two tests.
+-- `refusal::abort` meets its contract. The table cut after its first two tests, of which the first is asked in two parts.
 use borrow.Author.Needs.{needs}
 use mathlib.Core.Path.{refl, sym, _∙_}
 use native.Mathlib.Omega.{arith}
-use Rattle.refusal.proofs.Lengths.{is-sound, is-lent, rows-fit, desk-fits}
+use Rattle.state.proofs.Facts.{sound-facts}
 use Rattle.state.proofs.Exits.{unfit-stop, fit-pass, stop, pass}
-use Rattle.refusal.proofs.Tables.{abort-early, abort-late}
+use Rattle.refusal.proofs.Lengths.{rows-fit, desk-fits}
+use Rattle.refusal.proofs.Tables.{abort-early, abort-late, unsound, unlent, fit}
 use Rattle.refusal.proofs.abort.Statement.{statement}
 use Rattle.refusal.proofs.abort.Tie as tie
-
-fits-desk-requires : tie.Need-fits-desk-requires
-fits-desk-requires c κs = search needs
 
 sound-requires : tie.Need-sound-requires
 sound-requires c κs = search needs
 
-both-requires : tie.Need-both-requires
-both-requires c κs = search needs
-
 returns : tie.Need-returns
-returns c = abort-early _ _ _ _ _ (c .before .before .sound .ensures) refl _ _ _ _ _ (c .before .before .before .fits-desk .ensures) (c .before .both .ensures) 1 (unfit-stop _ _ (c .if1 .left)) (λ z. omega arith)
+returns c = abort-early _ _ _ _ _ (c .before .sound .ensures) refl _ _ _ _ _ refl refl 1 (unfit-stop _ _ (unsound _ _ (c .if1 .left))) (λ z. omega arith)
+
+fits-desk-requires : tie.Need-fits-desk-requires
+fits-desk-requires c κs = search needs
+
+returns-2 : tie.Need-returns-2
+returns-2 c = abort-early _ _ _ _ _ (c .before .before .before .sound .ensures) refl _ _ _ _ _ (c .before .fits-desk .ensures) refl 1 (unfit-stop _ _ (unlent _ _ (c .before .before .if1 .taken) (c .if2 .left))) (λ z. omega arith)
 
 is-recovering-requires : tie.Need-is-recovering-requires
 is-recovering-requires c κs = search needs
 
-returns-2 : tie.Need-returns-2
-returns-2 c = abort-early _ _ _ _ _ (c .before .before .before .before .sound .ensures) refl _ _ _ _ _ (c .before .before .before .before .before .fits-desk .ensures) (c .before .before .before .both .ensures) 10 (fit-pass _ 10 _ (c .before .before .if1 .taken) (stop _ 10 0 (sym (c .before .is-recovering .ensures) ∙ (c .if2 .taken)))) (λ z. omega arith)
+returns-3 : tie.Need-returns-3
+returns-3 c = abort-early _ _ _ _ _ (c .before .before .before .before .before .sound .ensures) refl _ _ _ _ _ (c .before .before .before .fits-desk .ensures) refl 10 (fit-pass _ 10 _ (fit _ _ (c .before .before .before .before .if1 .taken) (c .before .before .if2 .taken)) (stop _ 10 0 (sym (c .before .is-recovering .ensures) ∙ (c .if3 .taken)))) (λ z. omega arith)
 
 not-updates-requires : tie.Need-not-updates-requires
-not-updates-requires c κs = let s = is-sound (c .before .before .before .before .before .before .before .before .before .before .args .numbers) (c .before .before .before .before .before .before .before .before .before .before .args .phase) _ _ _ (c .before .before .before .before .sound .ensures) (c .before .before .before .both .ensures) (c .before .before .if1 .taken) in let d = desk-fits (c .before .before .before .before .before .before .before .before .before .before .args .numbers .cells) (c .before .before .before .before .before .before .before .before .before .before .args .numbers .slots) (c .before .before .before .before .before .before .before .before .before .before .args .current .now) (c .before .before .before .before .before .before .before .before .before .before .args .first .now) (c .before .before .before .before .before .before .before .before .before .before .args .last .now) (c .before .before .before .before .before .before .before .before .before .before .args .waiting .now) _ (c .before .before .before .before .before .fits-desk .ensures) (is-lent _ _ _ _ _ (c .before .before .before .before .sound .ensures) (c .before .before .before .both .ensures) (c .before .before .if1 .taken)) in rows-fit _ _ _ 0 1 s (omega arith) (omega arith)
+not-updates-requires c κs =
+    let a = c .before .before .before .before .before .before .before .before .before .before .args in
+    let s = sound-facts (a .numbers) (a .phase) (sym (c .before .before .before .before .before .sound .ensures) ∙ (c .before .before .before .before .if1 .taken)) in
+    let d = desk-fits (a .numbers .cells) (a .numbers .slots) (a .current .now) (a .first .now) (a .last .now) (a .waiting .now) _ (c .before .before .before .fits-desk .ensures) (c .before .before .if2 .taken) in
+    rows-fit _ _ _ 0 1 s (omega arith) (omega arith)
 
 refuse-requires : tie.Need-refuse-requires
 refuse-requires c κs = search needs
 
-returns-3 : tie.Need-returns-3
-returns-3 c = abort-late _ _ _ _ _ (c .before .before .before .before .before .before .sound .ensures) refl _ _ _ _ _ (c .before .before .before .before .before .before .before .fits-desk .ensures) (c .before .before .before .before .before .both .ensures) 0 _ _ (fit-pass _ 0 _ (c .before .before .before .before .if1 .taken) (pass _ 10 0 0 (sym (c .before .before .before .is-recovering .ensures) ∙ (c .before .before .if2 .left)) refl)) refl (c .before .not-updates .ensures) (c .refuse .ensures)
+returns-4 : tie.Need-returns-4
+returns-4 c = abort-late _ _ _ _ _ (c .before .before .before .before .before .before .before .sound .ensures) refl _ _ _ _ _ (c .before .before .before .before .before .fits-desk .ensures) refl 0 _ _ (fit-pass _ 0 _ (fit _ _ (c .before .before .before .before .before .before .if1 .taken) (c .before .before .before .before .if2 .taken)) (pass _ 10 0 0 (sym (c .before .before .before .is-recovering .ensures) ∙ (c .before .before .if3 .left)) refl)) refl (c .before .not-updates .ensures) (c .refuse .ensures)
 
 pub abort-spec : {M : Type 1} → statement M
 abort-spec =
     tie.close
     (tie.spec
-    fits-desk-requires
     sound-requires
-    both-requires
     returns
-    is-recovering-requires
+    fits-desk-requires
     returns-2
+    is-recovering-requires
+    returns-3
     not-updates-requires
     refuse-requires
-    returns-3)
+    returns-4)

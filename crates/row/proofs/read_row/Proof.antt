@@ -1,7 +1,8 @@
 -- `row::read_row` meets its contract. Each exit is a case of the definition, by the tests that led there.
 use borrow.Author.Needs.{needs}
+use mathlib.Core.Path.{_∙_}
 use native.Mathlib.Omega.{arith}
-use Rattle.row.proofs.Reading.{of-fields, row-short, row-zero, row-other, row-filler, row-outside, row-gap, row-read}
+use Rattle.row.proofs.Reading.{of-fields, row-short, row-zero, row-other, row-outside, row-gap, row-read}
 use Rattle.row.proofs.read_row.Statement.{statement}
 use Rattle.row.proofs.read_row.Tie as tie
 
@@ -17,29 +18,20 @@ get4-requires c κs = search needs
 returns-3 : tie.Need-returns-3
 returns-3 c = row-other _ _ _ (omega arith) (omega arith) (omega arith)
 
-shared-slice-read-kind : tie.Need-shared-slice-read-kind
-shared-slice-read-kind c = search needs
-
 get4-requires-2 : tie.Need-get4-requires-2
 get4-requires-2 c κs = search needs
-
-wide-requires : tie.Need-wide-requires
-wide-requires c κs = search needs
-
-returns-4 : tie.Need-returns-4
-returns-4 c = row-filler _ _ _ (omega arith) (omega arith) (omega arith) (c .before .wide .result) (omega arith) (omega arith)
 
 get4-requires-3 : tie.Need-get4-requires-3
 get4-requires-3 c κs = search needs
 
-returns-5 : tie.Need-returns-5
-returns-5 c = row-outside _ _ _ (omega arith) (omega arith) (omega arith) (c .before .before .before .wide .result) (omega arith) (omega arith) (omega arith)
+returns-4 : tie.Need-returns-4
+returns-4 c = row-outside _ _ _ (omega arith) (omega arith) (omega arith) (omega arith)
 
 get4-requires-4 : tie.Need-get4-requires-4
 get4-requires-4 c κs = search needs
 
-returns-6 : tie.Need-returns-6
-returns-6 c = row-gap _ _ _ (omega arith) (omega arith) (omega arith) (c .before .before .before .before .before .wide .result) (omega arith) (omega arith) (omega arith) (omega arith)
+returns-5 : tie.Need-returns-5
+returns-5 c = row-gap _ _ _ (omega arith) (omega arith) (omega arith) (omega arith) (omega arith)
 
 get8-requires : tie.Need-get8-requires
 get8-requires c κs = search needs
@@ -50,11 +42,10 @@ get8-requires-2 c κs = search needs
 of-kind-requires : tie.Need-of-kind-requires
 of-kind-requires c κs = search needs
 
-returns-7 : tie.Need-returns-7
-returns-7 c =
-    let d = c .before .before .before .before .before .before .before .before in
-    row-read _ _ _ (omega arith) (omega arith) (omega arith) (d .wide .result) (omega arith) (omega arith) (omega arith) (omega arith) _
-    (of-fields _ _ _ _ _ _ _ _ _ (c .of-kind .ensures) (omega arith) (omega arith) (omega arith) (omega arith))
+returns-6 : tie.Need-returns-6
+returns-6 c =
+    of-fields _ _ _ _ _ _ _ _ _ (c .of-kind .ensures) (omega arith) (omega arith) (omega arith) (omega arith)
+    ∙ row-read _ _ _ (omega arith) (omega arith) (omega arith) (omega arith) (omega arith)
 
 pub read-row-spec : {M : Type 1} → statement M
 read-row-spec =
@@ -64,15 +55,12 @@ read-row-spec =
     returns-2
     get4-requires
     returns-3
-    shared-slice-read-kind
     get4-requires-2
-    wide-requires
-    returns-4
     get4-requires-3
-    returns-5
+    returns-4
     get4-requires-4
-    returns-6
+    returns-5
     get8-requires
     get8-requires-2
     of-kind-requires
-    returns-7)
+    returns-6)
