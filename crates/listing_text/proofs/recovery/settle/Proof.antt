@@ -1,20 +1,21 @@
 -- `listing_text::recovery::settle` meets its contract. Invariant: the steps that remain, from here, give what all give from the start.
+use borrow.Author.Needs.{needs}
 use lib.ListN.{length}
 use mathlib.Core.List.{[]}
-use mathlib.Core.Path.{_∙_, sym, _≡_, refl}
+use mathlib.Core.Path.{_∙_, sym, ap, _≡_, refl}
 use native.Mathlib.Omega.{arith}
-use Rattle.keeper.specs.Answers.{handed}
-use Rattle.listing_text.proofs.Recovered.{steps-again, steps-stop, steps-end}
-use Rattle.listing_text.specs.Listing.{steps}
+use Rattle.keeper.specs.Answers.{handed, stepped}
+use Rattle.listing_text.proofs.Recovered.{steps-again, steps-stop, steps-end, no-cell}
+use Rattle.listing_text.specs.Listing.{isCell, steps}
 use Rattle.listing_text.proofs.recovery.settle.Statement.{statement}
 use Rattle.listing_text.proofs.recovery.settle.Tie as tie
 
 abbrev Inv-loop : tie.InvT-loop
-Inv-loop turns medium₀ current state₀ left₀ medium state left =
-    (length medium ≡ length medium₀) × (steps turns (handed state₀ medium₀ current [] [] []) ≡ steps left (handed state medium current [] [] []))
+Inv-loop left₀ state₀ medium₀ current left state medium =
+    (length medium ≡ length medium₀) × (steps left₀ (handed state₀ medium₀ current [] [] []) ≡ steps left (handed state medium current [] [] []))
 
 abbrev μ-loop : tie.MeasureT-loop
-μ-loop turns medium₀ current state₀ left₀ medium state left = left
+μ-loop left₀ state₀ medium₀ current left state medium = left
 
 loop-holds : tie.Need-loop-holds Inv-loop μ-loop
 loop-holds c = (refl, refl)
@@ -25,20 +26,26 @@ recovery-step-requires c κs = tt
 sub-left : tie.Need-sub-left Inv-loop μ-loop
 sub-left c = omega arith
 
-is-cell-requires : tie.Need-is-cell-requires Inv-loop μ-loop
-is-cell-requires c κs = tt
+enum-told : tie.Need-enum-told Inv-loop μ-loop
+enum-told c = search needs
 
 loop-less : tie.Need-loop-less Inv-loop μ-loop
 loop-less c = omega arith
 
 loop-again : tie.Need-loop-again Inv-loop μ-loop
-loop-again c = (omega arith, c .before .before .before .before .before .before .before .before .loop .inv .1 ∙ steps-again (c .before .before .before .before .before .before .before .before .loop .state) (c .before .before .before .before .before .recovery-step .result .state) (c .before .before .before .before .before .before .before .before .loop .medium) _ (c .before .before .before .before .before .before .before .before .before .before .before .args .current .now) _ (c .before .before .before .before .before .recovery-step .ensures) _ (c .before .is-cell .ensures) (c .before .before .before .before .before .before .before .before .loop .left) (omega arith) (c .if1 .taken))
+loop-again c =
+    let l = c .before .before .before .before .before .before .before .before .loop in
+    let r = c .before .before .before .before .before .recovery-step in
+    (omega arith, l .inv .1 ∙ steps-again (l .state) (r .result .state) (l .medium) _ (c .before .before .before .before .before .before .before .before .before .before .before .args .current .now) _ (r .ensures) (l .left) (omega arith) (ap (λ x. isCell (stepped x)) (c .enum-told .given .1)))
 
 same-length : tie.Need-same-length Inv-loop μ-loop
 same-length c = omega arith
 
 returns : tie.Need-returns Inv-loop μ-loop
-returns c = steps-stop (c .before .before .before .before .before .before .before .before .loop .state) (c .before .before .before .before .before .recovery-step .result .state) (c .before .before .before .before .before .before .before .before .loop .medium) _ (c .before .before .before .before .before .before .before .before .before .before .before .args .current .now) _ (c .before .before .before .before .before .recovery-step .ensures) _ (c .before .is-cell .ensures) (c .before .before .before .before .before .before .before .before .loop .left) (omega arith) (c .if1 .left) ∙ sym (c .before .before .before .before .before .before .before .before .loop .inv .1)
+returns c =
+    let l = c .before .before .before .before .before .before .before .loop in
+    let r = c .before .before .before .before .recovery-step in
+    steps-stop (l .state) (r .result .state) (l .medium) _ (c .before .before .before .before .before .before .before .before .before .before .args .current .now) _ (r .ensures) (l .left) (omega arith) (no-cell (r .result .answer) (c .match .keys2)) ∙ sym (l .inv .1)
 
 same-length-2 : tie.Need-same-length-2 Inv-loop μ-loop
 same-length-2 c = omega arith
@@ -55,7 +62,7 @@ settle-spec =
     loop-holds
     recovery-step-requires
     sub-left
-    is-cell-requires
+    enum-told
     loop-less
     loop-again
     same-length
