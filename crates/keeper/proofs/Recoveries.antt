@@ -1,19 +1,14 @@
 -- What the crate `recovery` leaves, in the form of the keeper's state: its numbers and phase, side by side, are the state.
-use Prim.Native.Nat.{ℕ, zero, suc}
-use mathlib.Core.Path.{_≡_, refl, ap, _∙_}
+use Prim.Native.Nat.{ℕ}
+use mathlib.Core.Path.{_≡_, ap, _∙_}
 use mathlib.Core.List.{List, []}
-use Rattle.scope.specs.Keeper.{Outcome, Answer, refused}
+use Rattle.scope.specs.Keeper.{Outcome, Answer}
 use Rattle.scope.specs.Calls.{recoveryStep}
 use Rattle.state.specs.Lent.{lentTo, left}
 use Rattle.state.specs.declared.Numbers.{Numbers}
 use Rattle.state.specs.declared.Phase.{Phase}
-use Rattle.recovery.specs.Answers.{numbered}
 use Rattle.keeper.specs.Answers.{handed, leaves}
 use Rattle.keeper.specs.declared.State.{State}
-
-pub number-refused : (n : ℕ) → (n ≡ 0 → ⊥) → refused n ≡ numbered n
-number-refused zero h = absurd (h refl)
-number-refused (suc n) h = refl
 
 module _ (n : Numbers) (p : Phase) (m : List ℕ) where
   pub start-leaves : (current first last waiting : List ℕ) (a b : Answer) (o : Outcome) → a ≡ b → left b n p m current first last waiting ≡ o

@@ -1,34 +1,33 @@
 // The listing of a medium as text: recovery by the library's own calls in the caller's memory, then `cells`, `slots`, `head` and the cells
 // that are not empty; or the refusal's number.
-pub mod recovery;
+mod recovering;
 
 ghost use mathlib.Core.Path.{_≡_};
-ghost use Prim.Native.Nat.{_+_, _*_, _≤_};
-ghost use lib.ListN.{length, replicate};
+ghost use Prim.Native.Nat.{_≤_};
+ghost use lib.ListN.{length};
 ghost use Rattle.text.specs.Text.{Wrote};
-ghost use Rattle.listing_text.specs.Listing.{listing};
-use medium::head::head_ok;
-use medium::layout::index;
-use recovery::listing_within;
+ghost use Rattle.listing_text.specs.Listing.{recovered, listing, outcomeText, OnMedium};
+use recovering::recover;
+use recovery::Started;
 use text::put_line;
+use text::put_table;
 
-// Workspaces of zeros, as long as the largest medium asks.
-fn no_values() -> [u64; 1024]
-    ensures { λ r. ⌜ (length r ≡ 1024) × (r ≡ replicate 1024 0) ⌝ }
+// The refusal's number, or the table on the medium that a recovery left.
+fn put_outcome(medium: &[u8], outcome: Started, text: &mut [u8]) -> usize
+    requires { ⌜ (65536 ≤ length (now text)) × OnMedium outcome (now medium) ⌝ }
+    ensures { λ r. ⌜ Wrote (now (text .entry)) 0 (outcomeText outcome (now (medium .entry))) (now (text .exit)) r ⌝ }
+    ensures { λ r. ⌜ r ≤ length (now (text .exit)) ⌝ }
 {
-    [0; 1024]
-}
-
-fn no_numbers() -> [u32; 1024]
-    ensures { λ r. ⌜ (length r ≡ 1024) × (r ≡ replicate 1024 0) ⌝ }
-{
-    [0; 1024]
-}
-
-fn no_rows() -> [u8; 32768]
-    ensures { λ r. ⌜ (length r ≡ 32768) × (r ≡ replicate 32768 0) ⌝ }
-{
-    [0; 32768]
+    if outcome.number != 0 {
+        return put_line(b"refused=", outcome.number, text, 0);
+    }
+    put_table(
+        medium,
+        outcome.numbers.cells,
+        outcome.numbers.slots,
+        outcome.numbers.h,
+        text,
+    )
 }
 
 // Writes the listing of the medium at the start of the text, of which 65,536 bytes are enough for any medium, and answers its length. The
@@ -37,23 +36,8 @@ pub fn listing(medium: &mut [u8], text: &mut [u8]) -> usize
     requires { ⌜ 65536 ≤ length (now text) ⌝ }
     ensures { λ r. ⌜ Wrote (now (text .entry)) 0 (listing (now (medium .entry))) (now (text .exit)) r ⌝ }
     ensures { λ r. ⌜ r ≤ length (now (text .exit)) ⌝ }
+    ensures { λ _. ⌜ now (medium .exit) ≡ recovered (now (medium .entry)) .medium ⌝ }
 {
-    let ok = head_ok(medium);
-    if ok {} else {
-        return put_line(b"refused=", 1, text, 0);
-    }
-    let cells = index(number::get4(medium, 0));
-    let rows = 32 * index(number::get4(medium, 4));
-    let mut current = no_values();
-    let mut first = no_numbers();
-    let mut last = no_numbers();
-    let waiting = no_rows();
-    listing_within(
-        medium,
-        &mut current[0..cells],
-        &mut first[0..cells],
-        &mut last[0..cells],
-        &waiting[0..rows],
-        text,
-    )
+    let outcome = recover(medium);
+    put_outcome(medium, outcome, text)
 }

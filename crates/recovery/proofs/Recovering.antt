@@ -1,5 +1,5 @@
 -- Recovery: one law for each way that a function ends, from the tests that led there; a start's table is the replay of the entries that scan counted.
-use Prim.Native.Nat.{ℕ, suc, _+_, _-_, _*_, _≤_, _<_}
+use Prim.Native.Nat.{ℕ, zero, suc, _+_, _-_, _*_, _≤_, _<_}
 use mathlib.Core.Path.{_≡_, refl, sym, ap, _∙_}
 use mathlib.Core.Bool.{Bool, true, false, _&&_, not}
 use mathlib.Core.List.{List, [], _∷_}
@@ -31,6 +31,11 @@ use Rattle.state.proofs.Facts.{and-left, and-right, sound-facts, medium-fits}
 use Rattle.state.specs.Lent.{lentTo, stateless, left}
 use Rattle.recovery.specs.declared.Started.{Started}
 use Rattle.recovery.specs.Answers.{numbered}
+
+-- a number as an answer
+pub number-refused : (n : ℕ) → (n ≡ 0 → ⊥) → refused n ≡ numbered n
+number-refused zero h = absurd (h refl)
+number-refused (suc n) h = refl
 
 -- a head in rule
 pub record Head (m : List ℕ) : Type 0 where

@@ -1,7 +1,7 @@
 -- `answer_of` says the number as an answer: by whether it is 0.
 use borrow.Author.Needs.{needs}
 use native.Mathlib.Omega.{arith}
-use Rattle.keeper.proofs.Recoveries.{number-refused}
+use Rattle.recovery.proofs.Recovering.{number-refused}
 use Rattle.keeper.proofs.recovering.answer_of.Statement.{statement}
 use Rattle.keeper.proofs.recovering.answer_of.Tie as tie
 
