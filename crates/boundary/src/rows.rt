@@ -26,8 +26,8 @@ pub extern "C" fn keeper_read_row(row: &[u8], cells: u32, number: u32, fields: &
     if fields.len() != 4 {
         return 0;
     }
-    put_fields(fields, 0, 0, 0);
     let Row::Holds(what) = row::read_row(row, cells, number) else {
+        put_fields(fields, 0, 0, 0);
         return 0;
     };
     match what {
@@ -35,8 +35,14 @@ pub extern "C" fn keeper_read_row(row: &[u8], cells: u32, number: u32, fields: &
             put_fields(fields, cell as u64, old, new);
             1
         }
-        Entry::Commit => 2,
-        Entry::Abort => 3,
+        Entry::Commit => {
+            put_fields(fields, 0, 0, 0);
+            2
+        }
+        Entry::Abort => {
+            put_fields(fields, 0, 0, 0);
+            3
+        }
     }
 }
 
