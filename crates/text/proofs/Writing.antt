@@ -80,9 +80,13 @@ module _ (n : ℕ) where
   digits-more zero d h p e = absurd (h refl)
   digits-more (suc left) d h p e = let z : suc left - 1 ≡ left = omega arith in simp (le-ltb n 10 p, e, z)
 
-  pub length-decimal : length (decimal n) ≤ 10
+  length-decimal : length (decimal n) ≤ 10
   unfolding decimal
   length-decimal = length-digits 10 n
+
+  -- a number and the byte after it
+  pub length-ended : (b : ℕ) → length (decimal n ++ (b ∷ [])) ≤ 11
+  length-ended b = omega (arith, length-decimal, length-append (decimal n) (b ∷ []))
 
 -- room
 
@@ -117,24 +121,26 @@ length-table-text n c h table =
 
 -- the lines of one function
 
-pub wrote-line : {t t₁ t₂ t₃ key : List ℕ} {at a b r : ℕ} (n : ℕ) → Wrote t at key t₁ a → Wrote t₁ a (decimal n) t₂ b → Wrote t₂ b (10 ∷ []) t₃ r
-    → at + length key + 11 ≤ length t → Wrote t at (line key n) t₃ r
-unfolding line
-wrote-line n p q s h =
-    let l = length-decimal n in
-    wrote-then (wrote-then p q (omega (arith, p .end, q .end))) s (omega (arith, p .end, q .end, s .end))
+pub wrote-decimal : {t t₁ t₂ : List ℕ} {at a r : ℕ} (n b : ℕ) → Wrote t at (digits 10 n) t₁ a → Wrote t₁ a (b ∷ []) t₂ r → at + 11 ≤ length t
+    → Wrote t at (decimal n ++ (b ∷ [])) t₂ r
+unfolding decimal
+wrote-decimal n b p q h = let l = length-digits 10 n in wrote-then p q (omega (arith, p .end, q .end))
 
-pub wrote-release : {t t₁ t₂ t₃ t₄ t₅ : List ℕ} {at a b d e r : ℕ} (major minor : ℕ) → Wrote t at releaseKey t₁ a → Wrote t₁ a (decimal major) t₂ b
-    → Wrote t₂ b (46 ∷ []) t₃ d → Wrote t₃ d (decimal minor) t₄ e → Wrote t₄ e (10 ∷ []) t₅ r → at + 30 ≤ length t
-    → Wrote t at (releaseLine major minor) t₅ r
+pub wrote-line : {t t₁ t₂ key : List ℕ} {at a r : ℕ} (n : ℕ) → Wrote t at key t₁ a → Wrote t₁ a (decimal n ++ (10 ∷ [])) t₂ r → at + length key + 11 ≤ length t
+    → Wrote t at (line key n) t₂ r
+unfolding line
+wrote-line {key = key} n p q h =
+    let l = length-ended n 10 in
+    wrote-same (wrote-then p q (omega (arith, p .end, q .end))) (sym (append-assoc key (decimal n) (10 ∷ [])))
+
+pub wrote-release : {t t₁ t₂ t₃ : List ℕ} {at a b r : ℕ} (major minor : ℕ) → Wrote t at releaseKey t₁ a → Wrote t₁ a (decimal major ++ (46 ∷ [])) t₂ b
+    → Wrote t₂ b (decimal minor ++ (10 ∷ [])) t₃ r → at + 30 ≤ length t → Wrote t at (releaseLine major minor) t₃ r
 unfolding releaseLine
-wrote-release major minor p q s u v h =
-    let l = length-decimal major in
-    let k = length-decimal minor in
+wrote-release major minor p q s h =
+    let l = length-ended major 46 in
+    let k = length-ended minor 10 in
     let x = wrote-then p q (omega (arith, p .end, q .end)) in
-    let y = wrote-then x s (omega (arith, p .end, q .end, s .end)) in
-    let z = wrote-then y u (omega (arith, p .end, q .end, s .end, u .end)) in
-    wrote-then z v (omega (arith, p .end, q .end, s .end, u .end, v .end))
+    wrote-same (wrote-then x s (omega (arith, p .end, q .end, s .end))) (simp append-assoc)
 
 pub cell-empty : (t : List ℕ) (at i v : ℕ) → v ≡ 0 → Wrote t at (cellText i v) t at
 unfolding cellText
@@ -182,12 +188,11 @@ cell-value (suc n) (suc i) m h =
     let e : 8 + 8 * i ≡ 8 * suc i = omega arith in
     cell-value n i (drop 8 m) (omega arith) ∙ ap (λ l. numberOf (take 8 l)) (drop-drop (8 * i) 8 m ∙ ap (λ j. drop j m) e)
 
-table-value : (n slots : ℕ) (m : List ℕ) (i base v : ℕ) → base ≡ cellAt slots 0 → v ≡ numberAt 8 (base + 8 * i) m → i < n → getD (tableOf n slots m) i 0 ≡ v
+table-value : (n slots : ℕ) (m : List ℕ) (i j v : ℕ) → j ≡ cellAt slots i → v ≡ numberAt 8 j m → i < n → getD (tableOf n slots m) i 0 ≡ v
 unfolding tableOf numberAt cellAt
-table-value n slots m i base v b e h =
-    let k : 32 + 32 * slots + 8 * i ≡ base + 8 * i = omega arith in
+table-value n slots m i j v b e h =
     cell-value n i (drop (32 + 32 * slots) m) h
-    ∙ ap (λ l. numberOf (take 8 l)) (drop-drop (8 * i) (32 + 32 * slots) m ∙ ap (λ j. drop j m) k)
+    ∙ ap (λ l. numberOf (take 8 l)) (drop-drop (8 * i) (32 + 32 * slots) m ∙ ap (λ k. drop k m) (sym b))
     ∙ sym e
 
 -- a turn of the loop over the medium's cells, and its end
@@ -195,17 +200,17 @@ module _ (m : List ℕ) (n slots : ℕ) where
   abbrev T : List ℕ
   T = tableOf n slots m
 
-  pub cells-again : {t t₁ t₂ : List ℕ} {at a r : ℕ} (i j base v : ℕ) → base ≡ cellAt slots 0 → v ≡ numberAt 8 (base + 8 * j) m → j ≡ i → i < n
+  pub cells-again : {t t₁ t₂ : List ℕ} {at a r : ℕ} (i j v : ℕ) → j ≡ cellAt slots i → v ≡ numberAt 8 j m → i < n
       → Wrote t at (cellsText 0 (take i T)) t₁ a → Wrote t₁ a (cellText i v) t₂ r → at + 62 * n ≤ length t
       → Wrote t at (cellsText 0 (take (i + 1) T)) t₂ r
-  cells-again i j base v b e f h p q room =
+  cells-again i j v b e h p q room =
       let l = length-table n slots m in
       let k : i ≤ length T = omega arith in
       let x = length-cells 0 (take i T) in
       let y = length-cell i v in
       let z = length-take-le i T k in
       wrote-same (wrote-then p q (omega (arith, p .end, q .end)))
-      (ap (λ w. cellsText 0 (take i T) ++ cellText i w) (sym (table-value n slots m i base v b (e ∙ ap (λ k. numberAt 8 (base + 8 * k) m) f) h)) ∙ cells-next i T (omega arith))
+      (ap (λ w. cellsText 0 (take i T) ++ cellText i w) (sym (table-value n slots m i j v b e h)) ∙ cells-next i T (omega arith))
 
   -- the place after i cells leaves room for one more
   pub cells-room : {t t₁ : List ℕ} {at a : ℕ} (i : ℕ) → Wrote t at (cellsText 0 (take i T)) t₁ a → i ≤ n → a ≤ at + 62 * i

@@ -1,12 +1,11 @@
 // The text of a table in a lent buffer: each function writes from a place on and answers the place after it.
 ghost use mathlib.Core.Path.{_≡_};
-ghost use mathlib.Core.List.{_∷_, []};
+ghost use mathlib.Core.List.{_∷_, [], _++_};
 ghost use Prim.Native.Nat.{_+_, _*_, _<_, _≤_};
 ghost use lib.ListN.{length};
 ghost use Rattle.scope.specs.Recovery.{tableOf};
 ghost use Rattle.text.specs.Text.{Wrote, digits, decimal, line, releaseLine, cellText, cellsText, tableText};
 use medium::layout::cell_at;
-use medium::layout::index;
 
 // One byte.
 fn put_byte(byte: u8, text: &mut [u8], at: usize) -> usize
@@ -53,12 +52,13 @@ fn put_digits(left: u32, n: u32, text: &mut [u8], at: usize) -> usize
     put_byte(digit(n % 10), text, last)
 }
 
-// A number in decimal: ten bytes at most.
-fn put_decimal(n: u32, text: &mut [u8], at: usize) -> usize
-    requires { ⌜ at + 10 ≤ length (now text) ⌝ }
-    ensures { λ r. ⌜ Wrote (now (text .entry)) at (decimal n) (now (text .exit)) r ⌝ }
+// A number in decimal, ten bytes at most, and the byte after it.
+fn put_decimal(n: u32, after: u8, text: &mut [u8], at: usize) -> usize
+    requires { ⌜ at + 11 ≤ length (now text) ⌝ }
+    ensures { λ r. ⌜ Wrote (now (text .entry)) at (decimal n ++ (after ∷ [])) (now (text .exit)) r ⌝ }
 {
-    put_digits(10, n, text, at)
+    let end = put_digits(10, n, text, at);
+    put_byte(after, text, end)
 }
 
 // A line: key, number, line end.
@@ -67,8 +67,7 @@ pub fn put_line(key: &[u8], n: u32, text: &mut [u8], at: usize) -> usize
     ensures { λ r. ⌜ Wrote (now (text .entry)) at (line (now (key .entry)) n) (now (text .exit)) r ⌝ }
 {
     let number = put_bytes(key, text, at);
-    let end = put_decimal(n, text, number);
-    put_byte(b'\n', text, end)
+    put_decimal(n, b'\n', text, number)
 }
 
 // The release: major, a point, minor.
@@ -77,10 +76,8 @@ fn put_release(major: u32, minor: u32, text: &mut [u8], at: usize) -> usize
     ensures { λ r. ⌜ Wrote (now (text .entry)) at (releaseLine major minor) (now (text .exit)) r ⌝ }
 {
     let number = put_bytes(b"release=", text, at);
-    let point = put_decimal(major, text, number);
-    let second = put_byte(b'.', text, point);
-    let end = put_decimal(minor, text, second);
-    put_byte(b'\n', text, end)
+    let second = put_decimal(major, b'.', text, number);
+    put_decimal(minor, b'\n', text, second)
 }
 
 // The three lines of a cell, 62 bytes at most; of an empty one none.
@@ -99,18 +96,16 @@ fn put_cell(cell: u32, value: u64, text: &mut [u8], at: usize) -> usize
 }
 
 // The cells of the medium's table by rising number.
-fn put_cells(medium: &[u8], slots: u32, cells: u32, text: &mut [u8], at: usize) -> usize
+fn put_cells(medium: &[u8], slots: u32, cells: u32, text: &mut [u8], mut at: usize) -> usize
     requires { ⌜ (32 + 32 * slots + 8 * cells ≤ length (now medium)) × (at + 62 * cells ≤ length (now text)) ⌝ }
     ensures { λ r. ⌜ Wrote (now (text .entry)) at (cellsText 0 (tableOf cells slots (now (medium .entry)))) (now (text .exit)) r ⌝ }
 {
-    let base = cell_at(slots, 0);
-    let mut end = at;
     let mut i: u32 = 0;
     while i < cells {
-        end = put_cell(i, number::get8(medium, base + 8 * index(i)), text, end);
+        at = put_cell(i, number::get8(medium, cell_at(slots, i)), text, at);
         i += 1;
     }
-    end
+    at
 }
 
 // N, C and h, then the table.
