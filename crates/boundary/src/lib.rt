@@ -7,7 +7,7 @@
 // Each function here is one call of the library, and its contract is the papers' definition of that call, for every input.
 pub mod looking;
 pub mod numbers;
-pub mod recovery;
+pub mod recovering;
 pub mod rows;
 pub mod storing;
 pub mod transaction;

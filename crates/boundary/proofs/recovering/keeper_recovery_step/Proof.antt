@@ -1,11 +1,11 @@
--- `boundary::recovery::keeper_recovery_step` meets its contract. The library's call on the state in the slice, or the state of zeros refused.
+-- `boundary::recovering::keeper_recovery_step` meets its contract. The library's call on the state in the slice, or the state of zeros refused.
 use borrow.Author.Needs.{needs}
 use mathlib.Core.Path.{refl}
 use Rattle.boundary.proofs.Crossing.{crossed, no-state}
 use Rattle.boundary.proofs.SevenNumbers.{holds-state, holds-none}
 use Rattle.boundary.proofs.Unsound.{step-unsound}
-use Rattle.boundary.proofs.recovery.keeper_recovery_step.Statement.{statement}
-use Rattle.boundary.proofs.recovery.keeper_recovery_step.Tie as tie
+use Rattle.boundary.proofs.recovering.keeper_recovery_step.Statement.{statement}
+use Rattle.boundary.proofs.recovering.keeper_recovery_step.Tie as tie
 
 state-in-requires : tie.Need-state-in-requires
 state-in-requires c κs = search needs

@@ -1,9 +1,9 @@
--- `boundary::recovery::keeper_recovery_start` meets its contract. The library's call, its state put into the slice.
+-- `boundary::recovering::keeper_recovery_start` meets its contract. The library's call, its state put into the slice.
 use borrow.Author.Needs.{needs}
 use native.Mathlib.Omega.{arith}
 use Rattle.boundary.proofs.Crossing.{start-other, start-crossed}
-use Rattle.boundary.proofs.recovery.keeper_recovery_start.Statement.{statement}
-use Rattle.boundary.proofs.recovery.keeper_recovery_start.Tie as tie
+use Rattle.boundary.proofs.recovering.keeper_recovery_start.Statement.{statement}
+use Rattle.boundary.proofs.recovering.keeper_recovery_start.Tie as tie
 
 returns : tie.Need-returns
 returns c = start-other _ _ _ _ _ _ _ (omega arith)
