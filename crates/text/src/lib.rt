@@ -7,15 +7,6 @@ ghost use Rattle.scope.specs.Recovery.{tableOf};
 ghost use Rattle.text.specs.Text.{Wrote, digits, decimal, line, releaseLine, cellText, cellsText, tableText};
 use medium::layout::cell_at;
 
-// One byte.
-fn put_byte(byte: u8, text: &mut [u8], at: usize) -> usize
-    requires { ⌜ at < length (now text) ⌝ }
-    ensures { λ r. ⌜ Wrote (now (text .entry)) at (byte ∷ []) (now (text .exit)) r ⌝ }
-{
-    text[at] = byte;
-    at + 1
-}
-
 // Bytes, one after the other.
 fn put_bytes(bytes: &[u8], text: &mut [u8], at: usize) -> usize
     requires { ⌜ at + length (now bytes) ≤ length (now text) ⌝ }
@@ -46,10 +37,12 @@ fn put_digits(left: u32, n: u32, text: &mut [u8], at: usize) -> usize
         return at;
     }
     if n < 10 {
-        return put_byte(digit(n), text, at);
+        text[at] = digit(n);
+        return at + 1;
     }
     let last = put_digits(left - 1, n / 10, text, at);
-    put_byte(digit(n % 10), text, last)
+    text[last] = digit(n % 10);
+    last + 1
 }
 
 // A number in decimal, ten bytes at most, and the byte after it.
@@ -58,7 +51,8 @@ fn put_decimal(n: u32, after: u8, text: &mut [u8], at: usize) -> usize
     ensures { λ r. ⌜ Wrote (now (text .entry)) at (decimal n ++ (after ∷ [])) (now (text .exit)) r ⌝ }
 {
     let end = put_digits(10, n, text, at);
-    put_byte(after, text, end)
+    text[end] = after;
+    end + 1
 }
 
 // A line: key, number, line end.

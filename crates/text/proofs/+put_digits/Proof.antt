@@ -4,14 +4,13 @@ use borrow.Author.Needs.{needs}
 use borrow.Fn.Kinds.{In}
 use borrow.Fn.PlainCycle.{Measures, is, falls, and}
 use native.Mathlib.Omega.{arith}
-use Rattle.text.proofs.Writing.{wrote-none, wrote-then, wrote-same, digits-none, digits-one, digits-more, length-digits}
-use Rattle.text.proofs.+put_digits.{statement}
-use Rattle.text.proofs.+put_digits.Tie.{close}
+use Rattle.text.proofs.Writing.{wrote-none, wrote-byte, wrote-then, wrote-same, digits-none, digits-one, digits-more, length-digits}
 use Rattle.text.proofs.put_digits.Reads as put-digits
 use Rattle.text.proofs.put_digits.Kinds as put-digits-kinds
 use Rattle.text.proofs.+put_digits.Lts-put_digits as put-digits-lts
 use Rattle.text.proofs.digit.Reads as digit-reads
-use Rattle.text.proofs.put_byte.Reads as put-byte-reads
+use Rattle.text.proofs.+put_digits.{statement}
+use Rattle.text.proofs.+put_digits.Tie.{close}
 
 abbrev μ-put-digits : Measures 1 put-digits-kinds.ps ℕ
 μ-put-digits κs a = a .0
@@ -27,8 +26,6 @@ put-digits-below t =
 put-digits-returns : (t : ℕ) → put-digits-lts.Need-returns (
   digit-reads.Asked,
   digit-reads.Learnt,
-  put-byte-reads.Asked,
-  put-byte-reads.Learnt,
   put-digits-below t,
   put-digits.Post,
 ) (put-digits-at t) put-digits.Post
@@ -37,28 +34,30 @@ put-digits-returns t c = wrote-same (wrote-none (c .before .before .args .text .
 put-digits-digit-requires : (t : ℕ) → put-digits-lts.Need-digit-requires (
   digit-reads.Asked,
   digit-reads.Learnt,
-  put-byte-reads.Asked,
-  put-byte-reads.Learnt,
   put-digits-below t,
   put-digits.Post,
 ) (put-digits-at t) put-digits.Post
 put-digits-digit-requires t c κs = omega arith
 
-put-digits-put-byte-requires : (t : ℕ) → put-digits-lts.Need-put-byte-requires (
+put-digits-slice-write-text : (t : ℕ) → put-digits-lts.Need-slice-write-text (
   digit-reads.Asked,
   digit-reads.Learnt,
-  put-byte-reads.Asked,
-  put-byte-reads.Learnt,
   put-digits-below t,
   put-digits.Post,
 ) (put-digits-at t) put-digits.Post
-put-digits-put-byte-requires t c κs = omega arith
+put-digits-slice-write-text t c = omega arith
+
+put-digits-add-result : (t : ℕ) → put-digits-lts.Need-add-result (
+  digit-reads.Asked,
+  digit-reads.Learnt,
+  put-digits-below t,
+  put-digits.Post,
+) (put-digits-at t) put-digits.Post
+put-digits-add-result t c = search needs
 
 put-digits-same-length : (t : ℕ) → put-digits-lts.Need-same-length (
   digit-reads.Asked,
   digit-reads.Learnt,
-  put-byte-reads.Asked,
-  put-byte-reads.Learnt,
   put-digits-below t,
   put-digits.Post,
 ) (put-digits-at t) put-digits.Post
@@ -67,18 +66,14 @@ put-digits-same-length t c = search needs
 put-digits-returns-2 : (t : ℕ) → put-digits-lts.Need-returns-2 (
   digit-reads.Asked,
   digit-reads.Learnt,
-  put-byte-reads.Asked,
-  put-byte-reads.Learnt,
   put-digits-below t,
   put-digits.Post,
 ) (put-digits-at t) put-digits.Post
-put-digits-returns-2 t c = wrote-same (c .before .before .put-byte .ensures) (digits-one (c .before .before .before .before .before .before .before .before .args .n) (c .before .before .before .before .before .before .before .before .args .left) _ (omega arith) (omega arith) (c .before .before .before .before .digit .ensures))
+put-digits-returns-2 t c = wrote-same (wrote-byte _ _ _ (omega arith)) (digits-one (c .before .before .before .before .args .n) (c .before .before .before .before .args .left) _ (omega arith) (omega arith) (c .digit .ensures))
 
 put-digits-sub-put-digits : (t : ℕ) → put-digits-lts.Need-sub-put-digits (
   digit-reads.Asked,
   digit-reads.Learnt,
-  put-byte-reads.Asked,
-  put-byte-reads.Learnt,
   put-digits-below t,
   put-digits.Post,
 ) (put-digits-at t) put-digits.Post
@@ -87,8 +82,6 @@ put-digits-sub-put-digits t c = omega arith
 put-digits-put-digits-requires : (t : ℕ) → put-digits-lts.Need-put-digits-requires (
   digit-reads.Asked,
   digit-reads.Learnt,
-  put-byte-reads.Asked,
-  put-byte-reads.Learnt,
   put-digits-below t,
   put-digits.Post,
 ) (put-digits-at t) put-digits.Post
@@ -97,28 +90,30 @@ put-digits-put-digits-requires t c κs = (omega arith, omega arith)
 put-digits-digit-requires-2 : (t : ℕ) → put-digits-lts.Need-digit-requires-2 (
   digit-reads.Asked,
   digit-reads.Learnt,
-  put-byte-reads.Asked,
-  put-byte-reads.Learnt,
   put-digits-below t,
   put-digits.Post,
 ) (put-digits-at t) put-digits.Post
 put-digits-digit-requires-2 t c κs = omega arith
 
-put-digits-put-byte-requires-2 : (t : ℕ) → put-digits-lts.Need-put-byte-requires-2 (
+put-digits-slice-write-text-2 : (t : ℕ) → put-digits-lts.Need-slice-write-text-2 (
   digit-reads.Asked,
   digit-reads.Learnt,
-  put-byte-reads.Asked,
-  put-byte-reads.Learnt,
   put-digits-below t,
   put-digits.Post,
 ) (put-digits-at t) put-digits.Post
-put-digits-put-byte-requires-2 t c κs = omega (arith, length-digits (c .before .before .before .before .before .before .before .before .before .args .left - 1) (c .before .before .before .before .before .before .before .before .before .args .n / 10))
+put-digits-slice-write-text-2 t c = omega (arith, length-digits (c .before .before .before .before .before .before .before .before .args .left - 1) (c .before .before .before .before .before .before .before .before .args .n / 10))
+
+put-digits-add-result-2 : (t : ℕ) → put-digits-lts.Need-add-result-2 (
+  digit-reads.Asked,
+  digit-reads.Learnt,
+  put-digits-below t,
+  put-digits.Post,
+) (put-digits-at t) put-digits.Post
+put-digits-add-result-2 t c = let h = length-digits (c .before .before .before .before .before .before .before .before .args .left - 1) (c .before .before .before .before .before .before .before .before .args .n / 10) in search needs
 
 put-digits-same-length-2 : (t : ℕ) → put-digits-lts.Need-same-length-2 (
   digit-reads.Asked,
   digit-reads.Learnt,
-  put-byte-reads.Asked,
-  put-byte-reads.Learnt,
   put-digits-below t,
   put-digits.Post,
 ) (put-digits-at t) put-digits.Post
@@ -127,19 +122,17 @@ put-digits-same-length-2 t c = search needs
 put-digits-returns-3 : (t : ℕ) → put-digits-lts.Need-returns-3 (
   digit-reads.Asked,
   digit-reads.Learnt,
-  put-byte-reads.Asked,
-  put-byte-reads.Learnt,
   put-digits-below t,
   put-digits.Post,
 ) (put-digits-at t) put-digits.Post
-put-digits-returns-3 t c = wrote-same (wrote-then (c .before .before .before .before .before .before .before .put-digits .ensures) (c .before .before .put-byte2 .ensures) (omega (arith, length-digits (c .before .before .before .before .before .before .before .before .before .before .before .before .args .left - 1) (c .before .before .before .before .before .before .before .before .before .before .before .before .args .n / 10)))) (digits-more (c .before .before .before .before .before .before .before .before .before .before .before .before .args .n) (c .before .before .before .before .before .before .before .before .before .before .before .before .args .left) _ (omega arith) (omega arith) (c .before .before .before .before .digit2 .ensures))
+put-digits-returns-3 t c =
+    let h = length-digits (c .before .before .before .before .before .before .before .before .args .left - 1) (c .before .before .before .before .before .before .before .before .args .n / 10) in
+    wrote-same (wrote-then (c .before .before .before .put-digits .ensures) (wrote-byte _ _ _ (omega arith)) (omega arith)) (digits-more (c .before .before .before .before .before .before .before .before .args .n) (c .before .before .before .before .before .before .before .before .args .left) _ (omega arith) (omega arith) (c .digit2 .ensures))
 
 pub +put-digits-spec : {M : Type 1} → statement M
 +put-digits-spec = close μ-put-digits λ t. put-digits-lts.spec (
   digit-reads.Asked,
   digit-reads.Learnt,
-  put-byte-reads.Asked,
-  put-byte-reads.Learnt,
   put-digits-below t,
   put-digits.Post,
 )
@@ -147,12 +140,14 @@ pub +put-digits-spec : {M : Type 1} → statement M
     put-digits.Post
     (put-digits-returns t)
     (put-digits-digit-requires t)
-    (put-digits-put-byte-requires t)
+    (put-digits-slice-write-text t)
+    (put-digits-add-result t)
     (put-digits-same-length t)
     (put-digits-returns-2 t)
     (put-digits-sub-put-digits t)
     (put-digits-put-digits-requires t)
     (put-digits-digit-requires-2 t)
-    (put-digits-put-byte-requires-2 t)
+    (put-digits-slice-write-text-2 t)
+    (put-digits-add-result-2 t)
     (put-digits-same-length-2 t)
     (put-digits-returns-3 t)
