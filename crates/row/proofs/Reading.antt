@@ -1,5 +1,5 @@
 -- Reading a row, one law for each way that it ends: the tests that led there, put into the definition. The three
--- zero bytes after the kind are judged with it, as one number.
+-- zero bytes after the kind are judged with it, and the four after the cell with that, as one number each.
 use Prim.Native.Nat.{ℕ, _+_, _*_, _≤_, _<_}
 use mathlib.Core.Path.{_≡_, refl, sym, _∙_}
 use mathlib.Core.Bool.{Bool, true, false, _&&_}
@@ -12,7 +12,7 @@ use lib.ListN.{length}
 use Rattle.scope.specs.Bytes.{pick, numberAt}
 use Rattle.scope.specs.Row.{Entry, update, commitEntry, abortEntry, entryOf, readRow}
 use Rattle.row.specs.Row.{isBare}
-use Rattle.number.proofs.Numbers.{number-suc}
+use Rattle.number.proofs.Numbers.{number-suc, eight}
 
 -- cell, old and new
 
@@ -34,6 +34,10 @@ module _ (c a b : ℕ) where
 either : (t : Bool) → none ≡ pick {A = Option Entry} t none none
 either true = refl
 either false = refl
+
+neither : (t : Bool) (e : Option Entry) → pick (t && false) e none ≡ none
+neither true e = refl
+neither false e = refl
 
 module _ (kind c a b : ℕ) where
   pub of-update : kind ≡ 1 → some (update c a b) ≡ entryOf kind c a b
@@ -77,6 +81,10 @@ module _ (cells n : ℕ) (r : List ℕ) where
     kind-bytes : numberAt 4 4 r ≡ numberAt 1 4 r + 256 * numberAt 3 5 r
     kind-bytes = omega (arith, number-suc r 3 4 5 (omega arith) (omega arith), number-suc r 0 4 5 (omega arith) (omega arith), none-left 5)
 
+    -- the cell and the four bytes after it
+    cell-bytes : numberAt 8 8 r ≡ numberAt 4 8 r + 4294967296 * numberAt 4 12 r
+    cell-bytes = sym (eight r 8 _ _ (omega arith) refl refl)
+
     module _ (p : 0 < n) where
       pub row-other : (numberAt 4 0 r ≡ n → ⊥) → none ≡ readRow cells n r
       unfolding readRow
@@ -100,15 +108,21 @@ module _ (cells n : ℕ) (r : List ℕ) where
               ← of-unknown (numberAt 4 4 r) (numberAt 4 8 r) (numberAt 8 16 r) (numberAt 8 24 r) (omega (arith, kind-bytes)) (omega (arith, kind-bytes)) (omega (arith, kind-bytes)),
             ) (either (ltb (numberAt 4 8 r) cells && eqb (numberAt 4 12 r) 0))
 
-        pub row-outside : cells ≤ numberAt 4 8 r → none ≡ readRow cells n r
-        row-outside o = sym (row-joined _ refl ∙ simp (le-ltb (numberAt 4 8 r) cells o))
+        -- so are the four bytes with the cell: where one isn't zero, the eight are no cell
+        module _ (few : cells < 4294967296) where
+          pub row-outside : cells ≤ numberAt 8 8 r → none ≡ readRow cells n r
+          row-outside o = sym (row-joined _ refl ∙ go (eqb (numberAt 4 12 r) 0) refl)
+            where
+              go : (t : Bool) → eqb (numberAt 4 12 r) 0 ≡ t
+                  → pick {A = Option Entry} (ltb (numberAt 4 8 r) cells && eqb (numberAt 4 12 r) 0) (entryOf (numberAt 4 4 r) (numberAt 4 8 r) (numberAt 8 16 r) (numberAt 8 24 r)) none ≡ none
+              go true z = simp (le-ltb (numberAt 4 8 r) cells (omega (arith, cell-bytes, eqb-true (numberAt 4 12 r) 0 z)))
+              go false z = simp z (neither (ltb (numberAt 4 8 r) cells) _)
 
-        module _ (o : numberAt 4 8 r < cells) where
-          pub row-gap : (numberAt 4 12 r ≡ 0 → ⊥) → none ≡ readRow cells n r
-          row-gap g = sym (row-joined _ refl ∙ simp (lt-ltb (numberAt 4 8 r) cells o, ne-eqb (numberAt 4 12 r) 0 g))
-
-          pub row-read : numberAt 4 12 r ≡ 0 → entryOf (numberAt 4 4 r) (numberAt 4 8 r) (numberAt 8 16 r) (numberAt 8 24 r) ≡ readRow cells n r
-          row-read g = sym (row-joined _ refl ∙ simp (lt-ltb (numberAt 4 8 r) cells o, eq-eqb (numberAt 4 12 r) 0 g))
+          pub row-read : numberAt 8 8 r < cells → entryOf (numberAt 4 4 r) (numberAt 8 8 r) (numberAt 8 16 r) (numberAt 8 24 r) ≡ readRow cells n r
+          row-read o =
+              let g : numberAt 4 12 r ≡ 0 = omega (arith, cell-bytes) in
+              let e : numberAt 8 8 r ≡ numberAt 4 8 r = omega (arith, cell-bytes) in
+              sym (row-joined _ refl ∙ simp (lt-ltb (numberAt 4 8 r) cells (omega arith), eq-eqb (numberAt 4 12 r) 0 g, e))
 
 -- an entry of a row's fields
 pub of-fields : (k c a b k′ c′ a′ b′ : ℕ) (e : Option Entry) → e ≡ entryOf k c a b → k ≡ k′ → c ≡ c′ → a ≡ a′ → b ≡ b′ → e ≡ entryOf k′ c′ a′ b′

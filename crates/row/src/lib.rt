@@ -80,17 +80,14 @@ pub fn read_row(row: &[u8], cells: u32, number: u32) -> Row
     }
     // the kind byte with the three after it: only 1, 2 and 3 are kinds
     let kind = number::get4(row, 4);
-    let cell = number::get4(row, 8);
-    if cells <= cell {
-        return Row::Nothing;
-    }
-    let gap = number::get4(row, 12);
-    if gap != 0 {
+    // the cell with the four bytes after it: below N only where those are zero
+    let cell = number::get8(row, 8);
+    if cells as u64 <= cell {
         return Row::Nothing;
     }
     let old = number::get8(row, 16);
     let new = number::get8(row, 24);
-    of_kind(kind, cell, old, new)
+    of_kind(kind, cell as u32, old, new)
 }
 
 // Writes entry `number` into the first 32 bytes of a slice, and answers whether it did: a shorter slice and number 0 are

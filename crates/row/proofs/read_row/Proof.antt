@@ -2,7 +2,7 @@
 use borrow.Author.Needs.{needs}
 use mathlib.Core.Path.{_∙_}
 use native.Mathlib.Omega.{arith}
-use Rattle.row.proofs.Reading.{of-fields, row-short, row-zero, row-other, row-outside, row-gap, row-read}
+use Rattle.row.proofs.Reading.{of-fields, row-short, row-zero, row-other, row-outside, row-read}
 use Rattle.row.proofs.read_row.Statement.{statement}
 use Rattle.row.proofs.read_row.Tie as tie
 
@@ -21,29 +21,26 @@ returns-3 c = row-other _ _ _ (omega arith) (omega arith) (omega arith)
 get4-requires-2 : tie.Need-get4-requires-2
 get4-requires-2 c κs = search needs
 
-get4-requires-3 : tie.Need-get4-requires-3
-get4-requires-3 c κs = search needs
-
-returns-4 : tie.Need-returns-4
-returns-4 c = row-outside _ _ _ (omega arith) (omega arith) (omega arith) (omega arith)
-
-get4-requires-4 : tie.Need-get4-requires-4
-get4-requires-4 c κs = search needs
-
-returns-5 : tie.Need-returns-5
-returns-5 c = row-gap _ _ _ (omega arith) (omega arith) (omega arith) (omega arith) (omega arith)
-
 get8-requires : tie.Need-get8-requires
 get8-requires c κs = search needs
+
+returns-4 : tie.Need-returns-4
+returns-4 c = row-outside _ _ _ (omega arith) (omega arith) (omega arith) (omega arith) (omega arith)
 
 get8-requires-2 : tie.Need-get8-requires-2
 get8-requires-2 c κs = search needs
 
+get8-requires-3 : tie.Need-get8-requires-3
+get8-requires-3 c κs = search needs
+
+cast-of-kind : tie.Need-cast-of-kind
+cast-of-kind c = omega arith
+
 of-kind-requires : tie.Need-of-kind-requires
 of-kind-requires c κs = search needs
 
-returns-6 : tie.Need-returns-6
-returns-6 c =
+returns-5 : tie.Need-returns-5
+returns-5 c =
     of-fields _ _ _ _ _ _ _ _ _ (c .of-kind .ensures) (omega arith) (omega arith) (omega arith) (omega arith)
     ∙ row-read _ _ _ (omega arith) (omega arith) (omega arith) (omega arith) (omega arith)
 
@@ -56,11 +53,10 @@ read-row-spec =
     get4-requires
     returns-3
     get4-requires-2
-    get4-requires-3
-    returns-4
-    get4-requires-4
-    returns-5
     get8-requires
+    returns-4
     get8-requires-2
+    get8-requires-3
+    cast-of-kind
     of-kind-requires
-    returns-6)
+    returns-5)
