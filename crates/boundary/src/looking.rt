@@ -1,5 +1,4 @@
 // Parts of what a host lends, as offsets: an entry, and the table.
-ghost use mathlib.Core.Path.{_≡_};
 ghost use mathlib.Core.List.{[]};
 ghost use Rattle.boundary.specs.Boundary.{lentOver};
 ghost use Rattle.boundary.specs.Parts.{Looked, Viewed};

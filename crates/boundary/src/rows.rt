@@ -4,7 +4,7 @@ ghost use mathlib.Core.List.{[], _∷_};
 ghost use Rattle.scope.specs.Row.{readRow, entryOf};
 ghost use Rattle.row.specs.Row.{meaning};
 ghost use lib.ListN.{length};
-ghost use Rattle.boundary.specs.Rows.{kindOf, fieldsOf, rowRead, rowWritten};
+ghost use Rattle.boundary.specs.Rows.{rowRead, rowWritten};
 use row::Entry;
 use row::Row;
 

@@ -1,9 +1,9 @@
 -- The row of an entry: a row is four words, and a part of 32 bytes is where its place says.
 use Prim.Native.Nat.{ℕ, suc, _+_, _-_, _*_, _%_, _≤_, _<_}
-use mathlib.Core.Path.{_≡_, refl, sym, ap, _∙_}
+use mathlib.Core.Path.{_≡_, sym, ap, _∙_}
 use mathlib.Core.List.{List, [], _∷_, _++_}
 use mathlib.Core.Option.{Option}
-use native.Mathlib.Nat.{zero-add, suc-mod, mod-lt, mod-self, mod-eq-of-lt}
+use native.Mathlib.Nat.{suc-mod, mod-lt, mod-self, mod-eq-of-lt}
 use native.Mathlib.Omega.{arith}
 use lib.ListN.{length, getD, take, drop, length-drop, length-append}
 use lib.Seq.{take-take, take-add, drop-drop, length-take-le}

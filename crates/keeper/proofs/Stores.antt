@@ -8,7 +8,7 @@ use native.Mathlib.Omega.{arith}
 use lib.Dec.{ltb}
 use lib.ListN.{getD, set, take, drop}
 use Rattle.scope.specs.Bytes.{bytesOf, put}
-use Rattle.scope.specs.Keeper.{Outcome, done, refused, clean, stored, rowAt, cellAt, waitingRow, headBytes, withState, withMedium, storedNext, droppedTo, storeCell, storeHead}
+use Rattle.scope.specs.Keeper.{Outcome, refused, clean, stored, rowAt, cellAt, waitingRow, headBytes, withState, withMedium, storedNext, droppedTo, storeCell, storeHead}
 use Rattle.scope.specs.Refusals.{Force, WriteBack, Cut, refusal}
 use Rattle.scope.specs.Calls.{force, writeBack, cleaned, cut}
 use Rattle.state.specs.State.{stateOf}

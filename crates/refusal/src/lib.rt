@@ -2,13 +2,9 @@
 // so that a call leaves at the first that holds. A function here changes nothing and is total: the calls ask it first.
 // Abort and cut leave at a state that is not sound before they look at what they are lent: that is quicker there, and slower in begin.
 ghost use mathlib.Core.Path.{_≡_};
-ghost use mathlib.Core.Bool.{not};
 ghost use mathlib.Core.List.{[]};
 ghost use Prim.Native.Nat.{ℕ, _+_, _-_, _<_};
-ghost use Rattle.scope.specs.Bytes.{pick};
-ghost use Rattle.scope.specs.Keeper.{isRecovering};
 ghost use Rattle.scope.specs.Refusals.{Begin, Read, Write, Commit, Abort, Force, WriteBack, Cut, Look, refusal};
-ghost use Rattle.state.specs.State.{phaseOf};
 ghost use Rattle.journal.specs.Entries.{Rows, entryIn};
 ghost use Rattle.state.specs.Lent.{lentTo};
 ghost use Rattle.refusal.specs.Rows.{notUpdatesIn, movedNo};

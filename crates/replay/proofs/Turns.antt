@@ -13,7 +13,7 @@ use lib.ListN.{length, set}
 use Rattle.scope.specs.Bytes.{pick, maxNo, numberAt}
 use Rattle.scope.specs.Row.{Entry, update, commitEntry, abortEntry, isUpdate}
 use Rattle.scope.specs.Recovery.{rowsOf, also, entriesFrom, atMost, journal}
-use Rattle.row.specs.Row.{entry, meaning}
+use Rattle.row.specs.Row.{meaning}
 use Rattle.row.specs.declared.Row.{Row}
 use Rattle.row.specs.declared.Row.the-variants.{Holds}
 use Rattle.row.specs.declared.Entry as code

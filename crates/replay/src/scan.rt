@@ -1,7 +1,6 @@
 // Which entries count.
 ghost use mathlib.Core.Path.{_≡_};
-ghost use Prim.Native.Nat.{_+_, _*_, _<_, _≤_};
-ghost use lib.ListN.{length};
+ghost use Prim.Native.Nat.{_+_, _<_};
 ghost use Rattle.scope.specs.Recovery.{atMost, journal};
 ghost use Rattle.journal.specs.Entries.{Rows};
 ghost use Rattle.replay.specs.Replay.{lastOf, upto};

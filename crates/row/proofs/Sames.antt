@@ -2,7 +2,7 @@
 use mathlib.Core.Path.{_≡_, refl, sym, ap, _∙_}
 use mathlib.Core.Option.{Option, none, some}
 use Rattle.scope.specs.Row.{Entry, update, commitEntry, abortEntry}
-use Rattle.row.specs.Row.{entry, meaning}
+use Rattle.row.specs.Row.{meaning}
 use Rattle.row.specs.declared.Row.{Row}
 use Rattle.row.specs.declared.Row.the-variants.{Holds, Nothing}
 use Rattle.row.specs.declared.Entry.the-variants.{Update, Commit, Abort}

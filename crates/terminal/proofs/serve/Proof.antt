@@ -1,5 +1,4 @@
 -- `terminal::serve` meets its contract. Every buffer keeps its length, and the turns that are left fall.
-use Prim.Native.Nat.{_-_}
 use borrow.Author.Needs.{needs}
 use lib.ListN.{length}
 use mathlib.Core.Path.{_≡_}

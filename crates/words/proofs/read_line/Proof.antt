@@ -1,5 +1,4 @@
 -- `words::read_line` meets its contract. The buffer keeps its length, and the turns that are left fall.
-use Prim.Native.Nat.{_-_}
 use borrow.Author.Needs.{needs}
 use lib.ListN.{length}
 use mathlib.Core.Path.{_≡_}

@@ -1,5 +1,4 @@
 -- `book::image::differs_last` meets its contract. It ends: the bytes that are left fall.
-use Prim.Native.Nat.{_-_}
 use borrow.Author.Needs.{needs}
 use native.Mathlib.Omega.{arith}
 use Rattle.book.proofs.image.differs_last.Statement.{statement}
