@@ -1,5 +1,6 @@
 pub mod Crossing
 pub mod Kept
+pub mod Made
 pub mod Places
 pub mod RowLaws
 pub mod SevenNumbers

@@ -85,6 +85,19 @@ stored-seven (x ∷ x2 ∷ x3 ∷ x4 ∷ x5 ∷ x6 ∷ []) n a b c d e f g = abs
 stored-seven (x ∷ x2 ∷ x3 ∷ x4 ∷ x5 ∷ x6 ∷ x7 ∷ []) n a b c d e f g = refl
 stored-seven (x ∷ x2 ∷ x3 ∷ x4 ∷ x5 ∷ x6 ∷ x7 ∷ x8 ∷ xs) n a b c d e f g = absurd (omega arith)
 
+-- three stores beside the first four
+pub stored-three : (s : List ℕ) → length s ≡ 7 → (e f g : ℕ)
+    → set (set (set s 4 e) 5 f) 6 g ≡ getD s 0 0 ∷ getD s 1 0 ∷ getD s 2 0 ∷ getD s 3 0 ∷ e ∷ f ∷ g ∷ []
+stored-three [] n e f g = absurd (omega arith)
+stored-three (x ∷ []) n e f g = absurd (omega arith)
+stored-three (x ∷ x2 ∷ []) n e f g = absurd (omega arith)
+stored-three (x ∷ x2 ∷ x3 ∷ []) n e f g = absurd (omega arith)
+stored-three (x ∷ x2 ∷ x3 ∷ x4 ∷ []) n e f g = absurd (omega arith)
+stored-three (x ∷ x2 ∷ x3 ∷ x4 ∷ x5 ∷ []) n e f g = absurd (omega arith)
+stored-three (x ∷ x2 ∷ x3 ∷ x4 ∷ x5 ∷ x6 ∷ []) n e f g = absurd (omega arith)
+stored-three (x ∷ x2 ∷ x3 ∷ x4 ∷ x5 ∷ x6 ∷ x7 ∷ []) n e f g = refl
+stored-three (x ∷ x2 ∷ x3 ∷ x4 ∷ x5 ∷ x6 ∷ x7 ∷ x8 ∷ xs) n e f g = absurd (omega arith)
+
 -- a state's numbers are read as that state
 
 pub read-back : (s : State) → stateIn (numbersOf s) ≡ s

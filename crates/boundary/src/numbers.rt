@@ -6,7 +6,7 @@ ghost use Rattle.state.specs.State.{phaseOf, stateOf};
 ghost use Rattle.recovery.specs.Answers.{stepped};
 ghost use Rattle.keeper.specs.Answers.{answered, writtenBack};
 ghost use Rattle.boundary.specs.Boundary.{phaseNo, numbersOf, stateHeld, stepValue, backValue};
-ghost use Rattle.boundary.specs.Held.{heldIn};
+ghost use Rattle.boundary.specs.Held.{heldIn, Begins};
 use keeper::Answer;
 use keeper::Back;
 use keeper::State;
@@ -73,6 +73,18 @@ pub fn put_state(s: &mut [u32], state: State)
     s[1] = numbers.slots;
     s[2] = numbers.h;
     s[3] = numbers.f;
+    s[4] = numbers.l;
+    s[5] = numbers.o;
+    s[6] = phase_number(phase);
+}
+
+// The numbers that making an entry changes, l, o and the phase, put back beside those that stay.
+pub fn put_made(s: &mut [u32], state: State)
+    requires { ⌜ Begins (now s) (state .numbers) ⌝ }
+    ensures { λ _. ⌜ now (s .exit) ≡ numbersOf (stateOf (state .numbers) (state .phase)) ⌝ }
+{
+    let numbers = state.numbers;
+    let phase = state.phase;
     s[4] = numbers.l;
     s[5] = numbers.o;
     s[6] = phase_number(phase);

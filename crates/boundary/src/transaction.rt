@@ -6,6 +6,7 @@ ghost use Rattle.scope.specs.Calls.{begin, read, write, commit, abort};
 ghost use Rattle.boundary.specs.Boundary.{noValue, result, over};
 use crate::numbers::Held;
 use crate::numbers::number_of;
+use crate::numbers::put_made;
 use crate::numbers::put_state;
 use crate::numbers::state_in;
 use crate::numbers::value_of;
@@ -64,7 +65,7 @@ pub extern "C" fn keeper_write(
     };
     let out = s.write(cell, new, current, first, last, waiting);
     let next = out.state;
-    put_state(state, next);
+    put_made(state, next);
     let answer = out.answer;
     number_of(answer)
 }
@@ -84,7 +85,7 @@ pub extern "C" fn keeper_commit(state: &mut [u32], waiting: &mut [u8], value: &m
         return number;
     }
     let next = out.state;
-    put_state(state, next);
+    put_made(state, next);
     *value = value_of(answer);
     number_of(answer)
 }

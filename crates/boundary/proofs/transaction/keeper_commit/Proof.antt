@@ -1,8 +1,10 @@
 -- `boundary::transaction::keeper_commit` meets its contract. The library's call on the state in the slice, or the state of zeros refused.
 use borrow.Author.Needs.{needs}
 use mathlib.Core.Path.{refl}
+use Rattle.scope.specs.Calls.{commit}
 use Rattle.boundary.proofs.Crossing.{crossed, no-state}
 use Rattle.boundary.proofs.Kept.{commit-keeps, refused-crossed}
+use Rattle.boundary.proofs.Made.{commit-makes, begins}
 use Rattle.boundary.proofs.SevenNumbers.{holds-state, holds-none}
 use Rattle.boundary.proofs.Unsound.{commit-unsound}
 use Rattle.boundary.proofs.transaction.keeper_commit.Statement.{statement}
@@ -41,8 +43,10 @@ returns-2 c = let h = holds-state _ _ (c .before .before .before .before .before
 enum-told-2 : tie.Need-enum-told-2
 enum-told-2 c = search needs
 
-put-state-requires : tie.Need-put-state-requires
-put-state-requires c κs = let h = holds-state _ _ (c .before .before .before .before .before .before .before .before .before .before .before .state-in .ensures) _ (c .before .before .before .before .before .before .before .before .before .s .given .1) in h .is-seven
+put-made-requires : tie.Need-put-made-requires
+put-made-requires c κs =
+    let h = holds-state _ _ (c .before .before .before .before .before .before .before .before .before .before .before .state-in .ensures) _ (c .before .before .before .before .before .before .before .before .before .s .given .1) in
+    begins _ _ _ _ _ _ commit commit-makes _ (c .before .before .before .before .before .before .commit .result .state) h _ _ _ _ _ _ (c .before .before .before .before .before .before .commit .ensures)
 
 value-of-requires : tie.Need-value-of-requires
 value-of-requires c κs = search needs
@@ -57,7 +61,7 @@ same-length-5 : tie.Need-same-length-5
 same-length-5 c = search needs
 
 returns-3 : tie.Need-returns-3
-returns-3 c = let h = holds-state _ _ (c .before .before .before .before .before .before .before .before .before .before .before .before .before .before .before .before .state-in .ensures) _ (c .before .before .before .before .before .before .before .before .before .before .before .before .before .before .s .given .1) in crossed _ _ _ _ _ _ _ refl _ _ (h .is-state) _ (c .before .before .before .before .before .before .before .before .before .before .before .commit .result .state) _ _ _ _ _ _ _ _ _ (h .read) (c .before .before .before .before .before .before .before .before .before .before .before .commit .ensures) (c .number-of .ensures) (c .before .value-of .ensures) (c .before .before .before .before .put-state .ensures)
+returns-3 c = let h = holds-state _ _ (c .before .before .before .before .before .before .before .before .before .before .before .before .before .before .before .before .state-in .ensures) _ (c .before .before .before .before .before .before .before .before .before .before .before .before .before .before .s .given .1) in crossed _ _ _ _ _ _ _ refl _ _ (h .is-state) _ (c .before .before .before .before .before .before .before .before .before .before .before .commit .result .state) _ _ _ _ _ _ _ _ _ (h .read) (c .before .before .before .before .before .before .before .before .before .before .before .commit .ensures) (c .number-of .ensures) (c .before .value-of .ensures) (c .before .before .before .before .put-made .ensures)
 
 pub keeper-commit-spec : {M : Type 1} → statement M
 keeper-commit-spec =
@@ -74,7 +78,7 @@ keeper-commit-spec =
     same-length-3
     returns-2
     enum-told-2
-    put-state-requires
+    put-made-requires
     value-of-requires
     number-of-requires
     same-length-4

@@ -1,7 +1,9 @@
 -- `boundary::transaction::keeper_write` meets its contract. The library's call on the state in the slice, or the state of zeros refused.
 use borrow.Author.Needs.{needs}
 use mathlib.Core.Path.{refl}
+use Rattle.scope.specs.Calls.{write}
 use Rattle.boundary.proofs.Crossing.{crossed, no-state}
+use Rattle.boundary.proofs.Made.{write-makes, begins}
 use Rattle.boundary.proofs.SevenNumbers.{holds-state, holds-none}
 use Rattle.boundary.proofs.Unsound.{write-unsound}
 use Rattle.boundary.proofs.transaction.keeper_write.Statement.{statement}
@@ -25,8 +27,10 @@ returns c = no-state _ _ _ _ _ _ _ refl _ _ (holds-none _ _ (c .before .before .
 write-requires : tie.Need-write-requires
 write-requires c κs = search needs
 
-put-state-requires : tie.Need-put-state-requires
-put-state-requires c κs = let h = holds-state _ _ (c .before .before .before .before .before .before .before .before .before .before .before .before .before .before .before .before .before .before .state-in .ensures) _ (c .before .before .before .before .before .before .before .before .before .before .before .before .before .before .before .before .s .given .1) in h .is-seven
+put-made-requires : tie.Need-put-made-requires
+put-made-requires c κs =
+    let h = holds-state _ _ (c .before .before .before .before .before .before .before .before .before .before .before .before .before .before .before .before .before .before .state-in .ensures) _ (c .before .before .before .before .before .before .before .before .before .before .before .before .before .before .before .before .s .given .1) in
+    begins _ _ _ _ _ _ (write _ _) (write-makes _ _) _ (c .before .before .before .before .before .before .before .before .before .before .write .result .state) h _ _ _ _ _ _ (c .before .before .before .before .before .before .before .before .before .before .write .ensures)
 
 number-of-requires : tie.Need-number-of-requires
 number-of-requires c κs = search needs
@@ -47,7 +51,7 @@ same-length-6 : tie.Need-same-length-6
 same-length-6 c = search needs
 
 returns-2 : tie.Need-returns-2
-returns-2 c = let h = holds-state _ _ (c .before .before .before .before .before .before .before .before .before .before .before .before .before .before .before .before .before .before .before .before .before .before .state-in .ensures) _ (c .before .before .before .before .before .before .before .before .before .before .before .before .before .before .before .before .before .before .before .before .s .given .1) in crossed _ _ _ _ _ _ _ refl _ _ (h .is-state) _ (c .before .before .before .before .before .before .before .before .before .before .before .before .before .before .write .result .state) _ _ _ _ _ _ _ _ _ (h .read) (c .before .before .before .before .before .before .before .before .before .before .before .before .before .before .write .ensures) (c .number-of .ensures) refl (c .before .before .before .put-state .ensures)
+returns-2 c = let h = holds-state _ _ (c .before .before .before .before .before .before .before .before .before .before .before .before .before .before .before .before .before .before .before .before .before .before .state-in .ensures) _ (c .before .before .before .before .before .before .before .before .before .before .before .before .before .before .before .before .before .before .before .before .s .given .1) in crossed _ _ _ _ _ _ _ refl _ _ (h .is-state) _ (c .before .before .before .before .before .before .before .before .before .before .before .before .before .before .write .result .state) _ _ _ _ _ _ _ _ _ (h .read) (c .before .before .before .before .before .before .before .before .before .before .before .before .before .before .write .ensures) (c .number-of .ensures) refl (c .before .before .before .put-made .ensures)
 
 pub keeper-write-spec : {M : Type 1} → statement M
 keeper-write-spec =
@@ -59,7 +63,7 @@ keeper-write-spec =
     same-length
     returns
     write-requires
-    put-state-requires
+    put-made-requires
     number-of-requires
     same-length-2
     same-length-3
