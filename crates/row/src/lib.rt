@@ -47,20 +47,24 @@ fn bare(cell: u32, old: u64, new: u64) -> bool
 fn of_kind(kind: u32, cell: u32, old: u64, new: u64) -> Row
     ensures { λ r. ⌜ meaning r ≡ entryOf kind cell old new ⌝ }
 {
-    if kind == 1 {
-        return Row::Holds(Entry::Update { cell, old, new });
+    match kind {
+        1 => Row::Holds(Entry::Update { cell, old, new }),
+        2 => {
+            let end = bare(cell, old, new);
+            if end {
+                return Row::Holds(Entry::Commit);
+            }
+            Row::Nothing
+        }
+        3 => {
+            let end = bare(cell, old, new);
+            if end {
+                return Row::Holds(Entry::Abort);
+            }
+            Row::Nothing
+        }
+        0 | 4..=4294967295 => Row::Nothing,
     }
-    let end = bare(cell, old, new);
-    if end {} else {
-        return Row::Nothing;
-    }
-    if kind == 2 {
-        return Row::Holds(Entry::Commit);
-    }
-    if kind == 3 {
-        return Row::Holds(Entry::Abort);
-    }
-    Row::Nothing
 }
 
 // Reads the first 32 bytes of a slice as entry `number` of a table of `cells` cells. A shorter slice reads as nothing.
