@@ -71,32 +71,27 @@ module _ (r : held.Held) (s : List ℕ) (e : heldIn r ≡ stateHeld s) where
       go true i q = record { is-state = i; is-seven = eqb-true (length s) 7 (and-left (eqb (length s) 7) (leb (getD s 6 0) 2) i); read = cc }
       go false i q = let z : _≡_ {A = ℕ} 0 1 = cc in absurd (omega arith)
 
--- seven stores
+-- seven numbers, one by one
 
-pub stored-seven : (s : List ℕ) → length s ≡ 7 → (a b c d e f g : ℕ)
-    → set (set (set (set (set (set (set s 0 a) 1 b) 2 c) 3 d) 4 e) 5 f) 6 g ≡ a ∷ b ∷ c ∷ d ∷ e ∷ f ∷ g ∷ []
-stored-seven [] n a b c d e f g = absurd (omega arith)
-stored-seven (x ∷ []) n a b c d e f g = absurd (omega arith)
-stored-seven (x ∷ x2 ∷ []) n a b c d e f g = absurd (omega arith)
-stored-seven (x ∷ x2 ∷ x3 ∷ []) n a b c d e f g = absurd (omega arith)
-stored-seven (x ∷ x2 ∷ x3 ∷ x4 ∷ []) n a b c d e f g = absurd (omega arith)
-stored-seven (x ∷ x2 ∷ x3 ∷ x4 ∷ x5 ∷ []) n a b c d e f g = absurd (omega arith)
-stored-seven (x ∷ x2 ∷ x3 ∷ x4 ∷ x5 ∷ x6 ∷ []) n a b c d e f g = absurd (omega arith)
-stored-seven (x ∷ x2 ∷ x3 ∷ x4 ∷ x5 ∷ x6 ∷ x7 ∷ []) n a b c d e f g = refl
-stored-seven (x ∷ x2 ∷ x3 ∷ x4 ∷ x5 ∷ x6 ∷ x7 ∷ x8 ∷ xs) n a b c d e f g = absurd (omega arith)
+as-seven : (s : List ℕ) → length s ≡ 7 → s ≡ getD s 0 0 ∷ getD s 1 0 ∷ getD s 2 0 ∷ getD s 3 0 ∷ getD s 4 0 ∷ getD s 5 0 ∷ getD s 6 0 ∷ []
+as-seven [] n = absurd (omega arith)
+as-seven (x ∷ []) n = absurd (omega arith)
+as-seven (x ∷ x2 ∷ []) n = absurd (omega arith)
+as-seven (x ∷ x2 ∷ x3 ∷ []) n = absurd (omega arith)
+as-seven (x ∷ x2 ∷ x3 ∷ x4 ∷ []) n = absurd (omega arith)
+as-seven (x ∷ x2 ∷ x3 ∷ x4 ∷ x5 ∷ []) n = absurd (omega arith)
+as-seven (x ∷ x2 ∷ x3 ∷ x4 ∷ x5 ∷ x6 ∷ []) n = absurd (omega arith)
+as-seven (x ∷ x2 ∷ x3 ∷ x4 ∷ x5 ∷ x6 ∷ x7 ∷ []) n = refl
+as-seven (x ∷ x2 ∷ x3 ∷ x4 ∷ x5 ∷ x6 ∷ x7 ∷ x8 ∷ xs) n = absurd (omega arith)
 
--- three stores beside the first four
-pub stored-three : (s : List ℕ) → length s ≡ 7 → (e f g : ℕ)
-    → set (set (set s 4 e) 5 f) 6 g ≡ getD s 0 0 ∷ getD s 1 0 ∷ getD s 2 0 ∷ getD s 3 0 ∷ e ∷ f ∷ g ∷ []
-stored-three [] n e f g = absurd (omega arith)
-stored-three (x ∷ []) n e f g = absurd (omega arith)
-stored-three (x ∷ x2 ∷ []) n e f g = absurd (omega arith)
-stored-three (x ∷ x2 ∷ x3 ∷ []) n e f g = absurd (omega arith)
-stored-three (x ∷ x2 ∷ x3 ∷ x4 ∷ []) n e f g = absurd (omega arith)
-stored-three (x ∷ x2 ∷ x3 ∷ x4 ∷ x5 ∷ []) n e f g = absurd (omega arith)
-stored-three (x ∷ x2 ∷ x3 ∷ x4 ∷ x5 ∷ x6 ∷ []) n e f g = absurd (omega arith)
-stored-three (x ∷ x2 ∷ x3 ∷ x4 ∷ x5 ∷ x6 ∷ x7 ∷ []) n e f g = refl
-stored-three (x ∷ x2 ∷ x3 ∷ x4 ∷ x5 ∷ x6 ∷ x7 ∷ x8 ∷ xs) n e f g = absurd (omega arith)
+module _ (s : List ℕ) (n : length s ≡ 7) where
+  -- all stored
+  pub stored-seven : (a b c d e f g : ℕ) → set (set (set (set (set (set (set s 0 a) 1 b) 2 c) 3 d) 4 e) 5 f) 6 g ≡ a ∷ b ∷ c ∷ d ∷ e ∷ f ∷ g ∷ []
+  stored-seven a b c d e f g = ap (λ x. set (set (set (set (set (set (set x 0 a) 1 b) 2 c) 3 d) 4 e) 5 f) 6 g) (as-seven s n)
+
+  -- the last three stored
+  pub stored-three : (e f g : ℕ) → set (set (set s 4 e) 5 f) 6 g ≡ getD s 0 0 ∷ getD s 1 0 ∷ getD s 2 0 ∷ getD s 3 0 ∷ e ∷ f ∷ g ∷ []
+  stored-three e f g = ap (λ x. set (set (set x 4 e) 5 f) 6 g) (as-seven s n)
 
 -- a state's numbers are read as that state
 
@@ -122,15 +117,8 @@ phase-back (suc (suc (suc n))) h = absurd (omega arith)
 
 numbers-back : (s : List ℕ) → length s ≡ 7 → getD s 6 0 ≤ 2 → numbersOf (seven s) ≡ s
 unfolding numbersOf seven
-numbers-back [] n h = absurd (omega arith)
-numbers-back (x ∷ []) n h = absurd (omega arith)
-numbers-back (x ∷ x2 ∷ []) n h = absurd (omega arith)
-numbers-back (x ∷ x2 ∷ x3 ∷ []) n h = absurd (omega arith)
-numbers-back (x ∷ x2 ∷ x3 ∷ x4 ∷ []) n h = absurd (omega arith)
-numbers-back (x ∷ x2 ∷ x3 ∷ x4 ∷ x5 ∷ []) n h = absurd (omega arith)
-numbers-back (x ∷ x2 ∷ x3 ∷ x4 ∷ x5 ∷ x6 ∷ []) n h = absurd (omega arith)
-numbers-back (x ∷ x2 ∷ x3 ∷ x4 ∷ x5 ∷ x6 ∷ x7 ∷ []) n h = ap (λ y. x ∷ x2 ∷ x3 ∷ x4 ∷ x5 ∷ x6 ∷ y ∷ []) (phase-back x7 h)
-numbers-back (x ∷ x2 ∷ x3 ∷ x4 ∷ x5 ∷ x6 ∷ x7 ∷ x8 ∷ xs) n h = absurd (omega arith)
+numbers-back s n h =
+    ap (λ y. getD s 0 0 ∷ getD s 1 0 ∷ getD s 2 0 ∷ getD s 3 0 ∷ getD s 4 0 ∷ getD s 5 0 ∷ y ∷ []) (phase-back (getD s 6 0) h) ∙ sym (as-seven s n)
 
 pub put-back : (s : List ℕ) → isState s ≡ true → numbersOf (seven s) ≡ s
 unfolding isState
