@@ -19,7 +19,7 @@ use Rattle.medium.specs.Lent.{found}
 use Rattle.medium.specs.declared.table.Found.{Found}
 use Rattle.medium.specs.declared.table.Found.the-variants.{At, Nothing}
 use Rattle.journal.specs.Entries.{entryIn}
-use Rattle.replay.specs.Replay.{lastOf, upto, replayFrom}
+use Rattle.replay.specs.Replay.{lastOf, upto, replayFrom, replayed}
 use Rattle.replay.specs.declared.scan.Counted.{Counted}
 use Rattle.replay.specs.declared.scan.Counted.the-variants.{Upto, Malformed}
 use Rattle.replay.proofs.Replaying.{replay-rows, Last, last-some, last-none, last-fits}
@@ -121,37 +121,45 @@ module _ (m current first last waiting : List ℕ) where
           unfolding recoveryStart refusal tests unlessStart stateless
           accepted = simp (← e, p, read .read)
 
-          replayed : (loaded current′ : List ℕ) → loaded ≡ tableOf (length current) c m → current′ ≡ replayFrom (entryIn m 32 c n) (x - h) h h loaded
-              → current′ ≡ replay (read .entries) [] (tableOf (numberAt 4 0 m) (numberAt 4 4 m) m)
-          replayed loaded current′ ql qr =
-              let z : x - h ≡ length (read .entries) = omega (arith, read .last) in
-              let y : loaded ≡ tableOf (numberAt 4 0 m) (numberAt 4 4 m) m = ql ∙ (λ i. tableOf (start-lent .0 i) (qc i) m) in
-              qr ∙ (λ i. replayFrom (entryIn m 32 (qc i) (qn i)) (z i) (qh i) (qh i) (y i))
-              ∙ replay-rows m (numberAt 4 0 m) (numberAt 4 4 m) (numberAt 4 8 m) (read .entries) _ (read .read)
+          module _ (all : Bool) (loaded current′ : List ℕ) (ql : loaded ≡ tableOf (length current) c m) (qr : replayed all current′ ≡ replayFrom (entryIn m 32 c n) (x - h) h h loaded) where
+            replay-is : replayed all current′ ≡ some (replay (read .entries) [] (tableOf (numberAt 4 0 m) (numberAt 4 4 m) m))
+            replay-is =
+                let z : x - h ≡ length (read .entries) = omega (arith, read .last) in
+                let y : loaded ≡ tableOf (numberAt 4 0 m) (numberAt 4 4 m) m = ql ∙ (λ i. tableOf (start-lent .0 i) (qc i) m) in
+                qr ∙ (λ i. replayFrom (entryIn m 32 (qc i) (qn i)) (z i) (qh i) (qh i) (y i))
+                ∙ replay-rows m (numberAt 4 0 m) (numberAt 4 4 m) (numberAt 4 8 m) (read .entries) _ (read .read)
 
-          pub start-done : (loaded current′ first′ last′ : List ℕ) → loaded ≡ tableOf (length current) c m → current′ ≡ replayFrom (entryIn m 32 c n) (x - h) h h loaded
-              → first′ ≡ replicate (length first) 0 → last′ ≡ replicate (length last) 0 → (r : Started)
-              → r ≡ record { number = 0; numbers = record { cells = n; slots = c; h = h; f = x; l = x; o = x }; phase = Recovering }
-              → left (numbered (r .number)) (r .numbers) (r .phase) m current′ first′ last′ waiting ≡ recoveryStart (stateless m current first last waiting)
-          unfolding left lentTo stateOf stateless startWith
-          start-done loaded current′ first′ last′ ql qr qf qg r q =
-              let a = replayed loaded current′ ql qr in
-              let b = qf ∙ ap (λ i. replicate {A = ℕ} i 0) (start-lent .1) in
-              let d = qg ∙ ap (λ i. replicate {A = ℕ} i 0) (start-lent .2) in
-              let l : x ≡ numberAt 4 8 m + length (read .entries) = read .last in
-              ap (λ y. left (numbered (y .number)) (y .numbers) (y .phase) m current′ first′ last′ waiting) q
-              ∙ (λ i. record {
-                answer = done 0;
-                keeper = record {
-                  medium = m;
-                  current = a i;
-                  first = b i;
-                  last = d i;
-                  waiting = waiting;
-                  state = record { cells = qn i; slots = qc i; h = qh i; f = l i; l = l i; o = l i; phase = recovering };
-                };
-              })
-              ∙ accepted
+            -- behind the scan replay refuses no row
+            pub start-read : all ≡ false → ⊥
+            start-read q =
+                let z : _≡_ {A = Option (List ℕ)} none (some (replay (read .entries) [] (tableOf (numberAt 4 0 m) (numberAt 4 4 m) m))) =
+                ap (λ b. replayed b current′) (sym q) ∙ replay-is in
+                let w : _≡_ {A = ℕ} 0 1 = cc in omega arith
+
+            pub start-done : (first′ last′ : List ℕ) → first′ ≡ replicate (length first) 0 → last′ ≡ replicate (length last) 0 → all ≡ true → (r : Started)
+                → r ≡ record { number = 0; numbers = record { cells = n; slots = c; h = h; f = x; l = x; o = x }; phase = Recovering }
+                → left (numbered (r .number)) (r .numbers) (r .phase) m current′ first′ last′ waiting ≡ recoveryStart (stateless m current first last waiting)
+            unfolding left lentTo stateOf stateless startWith
+            start-done first′ last′ qf qg ok r q =
+                let e : _≡_ {A = Option (List ℕ)} (some current′) (some (replay (read .entries) [] (tableOf (numberAt 4 0 m) (numberAt 4 4 m) m))) =
+                ap (λ b. replayed b current′) (sym ok) ∙ replay-is in
+                let a : current′ ≡ replay (read .entries) [] (tableOf (numberAt 4 0 m) (numberAt 4 4 m) m) = cc in
+                let b = qf ∙ ap (λ i. replicate {A = ℕ} i 0) (start-lent .1) in
+                let d = qg ∙ ap (λ i. replicate {A = ℕ} i 0) (start-lent .2) in
+                let l : x ≡ numberAt 4 8 m + length (read .entries) = read .last in
+                ap (λ y. left (numbered (y .number)) (y .numbers) (y .phase) m current′ first′ last′ waiting) q
+                ∙ (λ i. record {
+                  answer = done 0;
+                  keeper = record {
+                    medium = m;
+                    current = a i;
+                    first = b i;
+                    last = d i;
+                    waiting = waiting;
+                    state = record { cells = qn i; slots = qc i; h = qh i; f = l i; l = l i; o = l i; phase = recovering };
+                  };
+                })
+                ∙ accepted
 
 -- a step's refusal: all its tests, by congruence
 

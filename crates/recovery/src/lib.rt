@@ -19,6 +19,7 @@ use medium::table::Found;
 use medium::table::load;
 use medium::table::lowest_differing;
 use medium::table::store_cell;
+use replay::entries::replay;
 use replay::scan::Counted;
 use replay::scan::scan;
 use state::Numbers;
@@ -139,7 +140,10 @@ pub fn recovery_start(
         return no_start(2);
     };
     load(medium, slots, current);
-    replay::entries::replay(medium, slots, cells, h, e, current);
+    let read = replay(medium, slots, cells, h, e, current);
+    if read {} else {
+        return no_start(2);
+    }
     clear(first);
     clear(last);
     upto(cells, slots, h, e)

@@ -12,7 +12,7 @@ use Rattle.scope.specs.Bytes.{pick, numberAt}
 use Rattle.scope.specs.Row.{Entry, update, commitEntry, abortEntry, readRow}
 use Rattle.scope.specs.Recovery.{rowsOf, firstly, entriesFrom, atMost, journal, undo, replay}
 use Rattle.journal.specs.Entries.{entryIn}
-use Rattle.replay.specs.Replay.{lastOf, undoEntry, undoFrom, replayEntry, openAfter, replayFrom}
+use Rattle.replay.specs.Replay.{lastOf, undoEntry, undoFrom, replayEntry, openAfter, onward, replayFrom}
 use Rattle.replay.proofs.Turns.{most-fits}
 
 none≢some {ℓ} : {R : Type ℓ} {A : Type 0} {x : A} → none ≡ some x → R
@@ -59,23 +59,23 @@ module _ (e : ℕ → Option Entry) where
   Holding n (x ∷ es) = (e (n + 1) ≡ some x) × Holding (n + 1) es
 
   replay-next : (left s n : ℕ) (t : List ℕ) (x : Option Entry) → e (n + 1) ≡ x
-      → replayFrom e (suc left) s n t ≡ replayFrom e left (openAfter x s (n + 1)) (n + 1) (replayEntry e x s n t)
+      → replayFrom e (suc left) s n t ≡ onward (openAfter x s (n + 1)) (λ s′. replayFrom e left s′ (n + 1) (replayEntry e x s n t))
   unfolding replayFrom
-  replay-next left s n t x p = ap (λ y. replayFrom e left (openAfter y s (n + 1)) (n + 1) (replayEntry e y s n t)) p
+  replay-next left s n t x p = ap (λ y. onward (openAfter y s (n + 1)) (λ s′. replayFrom e left s′ (n + 1) (replayEntry e y s n t))) p
 
-  same-replay : (es : List Entry) (s n : ℕ) (t : List ℕ) → s ≤ n → Holding n es → replayFrom e (length es) s n t ≡ replay es (undosOf e s (n - s)) t
+  same-replay : (es : List Entry) (s n : ℕ) (t : List ℕ) → s ≤ n → Holding n es → replayFrom e (length es) s n t ≡ some (replay es (undosOf e s (n - s)) t)
   unfolding replayFrom replay
-  same-replay [] s n t h r = undo-same e s (n - s) t
+  same-replay [] s n t h r = ap some (undo-same e s (n - s) t)
   same-replay (update c old new ∷ es) s n t h r =
       replay-next (length es) s n t (some (update c old new)) (r .0) ∙ same-replay es s (n + 1) (set t c new) (omega arith) (r .1)
-      ∙ ap (λ u. replay es u (set t c new)) (undos-more s n c old new h (r .0))
+      ∙ ap (λ u. some (replay es u (set t c new))) (undos-more s n c old new h (r .0))
   same-replay (commitEntry ∷ es) s n t h r =
       replay-next (length es) s n t (some commitEntry) (r .0) ∙ same-replay es (n + 1) (n + 1) t (omega arith) (r .1)
-      ∙ ap (λ u. replay es u t) (undos-none (n + 1) (n + 1 - (n + 1)) (omega arith))
+      ∙ ap (λ u. some (replay es u t)) (undos-none (n + 1) (n + 1 - (n + 1)) (omega arith))
   same-replay (abortEntry ∷ es) s n t h r =
       replay-next (length es) s n t (some abortEntry) (r .0) ∙ same-replay es (n + 1) (n + 1) (undoFrom e s (n - s) t) (omega arith) (r .1)
-      ∙ ap (λ u. replay es u (undoFrom e s (n - s) t)) (undos-none (n + 1) (n + 1 - (n + 1)) (omega arith))
-      ∙ ap (replay es []) (undo-same e s (n - s) t)
+      ∙ ap (λ u. some (replay es u (undoFrom e s (n - s) t))) (undos-none (n + 1) (n + 1 - (n + 1)) (omega arith))
+      ∙ ap (λ x. some (replay es [] x)) (undo-same e s (n - s) t)
 
 -- what a scan of rows gives: each row reads as its entry, and there are not too many
 
@@ -106,11 +106,11 @@ module _ (row : ℕ → List ℕ) (cells : ℕ) where
 module _ (m : List ℕ) (cells slots h : ℕ) where
   -- REPLAY BY ENTRY NUMBERS IS THE JOURNAL'S REPLAY
   pub replay-rows : (es : List Entry) (t : List ℕ) → journal cells slots h m ≡ some es
-      → replayFrom (entryIn m 32 slots cells) (length es) h h t ≡ replay es [] t
+      → replayFrom (entryIn m 32 slots cells) (length es) h h t ≡ some (replay es [] t)
   unfolding journal entryIn
   replay-rows es t p =
       same-replay (entryIn m 32 slots cells) es h h t (omega arith) (scanned (rowsOf slots m) cells (atMost slots h) h es p .holding)
-      ∙ ap (λ u. replay es u t) (undos-none (entryIn m 32 slots cells) h (h - h) (omega arith))
+      ∙ ap (λ u. some (replay es u t)) (undos-none (entryIn m 32 slots cells) h (h - h) (omega arith))
 
   -- what the last entry that counts says of the journal: it reads, and so many entries come after h
   pub record Last (e : ℕ) : Type 0 where

@@ -20,7 +20,9 @@ use Rattle.row.specs.declared.Entry as code
 use Rattle.row.proofs.Entry.{the-type}
 use Rattle.journal.specs.Entries.{entryIn}
 use Rattle.journal.proofs.Meanings.{is-end}
-use Rattle.replay.specs.Replay.{lastOf, undoEntry, undoFrom, replayEntry, openAfter, replayFrom}
+use Rattle.replay.specs.Replay.{lastOf, undoEntry, undoFrom, replayEntry, openAfter, opened, onward, replayFrom}
+use Rattle.replay.specs.declared.entries.Replayed.{Replayed}
+use Rattle.replay.specs.declared.entries.Replayed.the-variants.{Open, Malformed}
 
 -- an entry that is no update undoes nothing
 
@@ -42,16 +44,16 @@ pub undo-update : (r : Option Entry) (t : List ℕ) (i c old new : ℕ) → some
 undo-update r t i c old new p q = ap (λ j. set t j old) q ∙ ap (λ z. undoEntry z t) p
 
 module _ (e : ℕ → Option Entry) (r : Option Entry) (s n k : ℕ) (t : List ℕ) where
-  pub replay-nothing : none ≡ r → (t ≡ replayEntry e r s n t) × (s ≡ openAfter r s k)
+  pub replay-nothing : none ≡ r → (t ≡ replayEntry e r s n t) × (none ≡ openAfter r s k)
   replay-nothing p = (ap (λ z. replayEntry e z s n t) p, ap (λ z. openAfter z s k) p)
 
-  pub replay-update : (i c old new : ℕ) → some (update c old new) ≡ r → i ≡ c → (set t i new ≡ replayEntry e r s n t) × (s ≡ openAfter r s k)
+  pub replay-update : (i c old new : ℕ) → some (update c old new) ≡ r → i ≡ c → (set t i new ≡ replayEntry e r s n t) × (some s ≡ openAfter r s k)
   replay-update i c old new p q = (ap (λ j. set t j new) q ∙ ap (λ z. replayEntry e z s n t) p, ap (λ z. openAfter z s k) p)
 
-  pub replay-commit : some commitEntry ≡ r → (t ≡ replayEntry e r s n t) × (k ≡ openAfter r s k)
+  pub replay-commit : some commitEntry ≡ r → (t ≡ replayEntry e r s n t) × (some k ≡ openAfter r s k)
   replay-commit p = (ap (λ z. replayEntry e z s n t) p, ap (λ z. openAfter z s k) p)
 
-  pub replay-abort : (t′ : List ℕ) → t′ ≡ undoFrom e s (n - s) t → some abortEntry ≡ r → (t′ ≡ replayEntry e r s n t) × (k ≡ openAfter r s k)
+  pub replay-abort : (t′ : List ℕ) → t′ ≡ undoFrom e s (n - s) t → some abortEntry ≡ r → (t′ ≡ replayEntry e r s n t) × (some k ≡ openAfter r s k)
   replay-abort t′ q p = (q ∙ ap (λ z. replayEntry e z s n t) p, ap (λ z. openAfter z s k) p)
 
 -- the falling loop of undo, which has still to make of t what it was to make of the first table
@@ -73,21 +75,29 @@ module _ (e : ℕ → Option Entry) (s k : ℕ) (all t : List ℕ) (p : all ≡ 
 
 -- the rising loop of replay
 
-module _ (e : ℕ → Option Entry) (last s n : ℕ) (all t : List ℕ) (p : all ≡ replayFrom e (last - n) s n t) where
+module _ (e : ℕ → Option Entry) (last s n : ℕ) (all : Option (List ℕ)) (t : List ℕ) (p : all ≡ replayFrom e (last - n) s n t) where
   replay-suc : (j i : ℕ) → j ≡ suc i
-      → replayFrom e j s n t ≡ replayFrom e i (openAfter (e (n + 1)) s (n + 1)) (n + 1) (replayEntry e (e (n + 1)) s n t)
+      → replayFrom e j s n t ≡ onward (openAfter (e (n + 1)) s (n + 1)) (λ s′. replayFrom e i s′ (n + 1) (replayEntry e (e (n + 1)) s n t))
   unfolding replayFrom
   replay-suc j i h = rw h
 
-  pub replay-again : n < last → (s′ : ℕ) (t′ : List ℕ) → t′ ≡ replayEntry e (e (n + 1)) s n t → s′ ≡ openAfter (e (n + 1)) s (n + 1)
-      → all ≡ replayFrom e (last - (n + 1)) s′ (n + 1) t′
-  replay-again h s′ t′ q u =
-      let z : last - n ≡ suc (last - (n + 1)) = omega arith in
-      p ∙ replay-suc (last - n) (last - (n + 1)) z ∙ rw (q, u)
+  module _ (h : n < last) (u : Replayed) (q : opened u ≡ openAfter (e (n + 1)) s (n + 1)) where
+    replay-on : all ≡ onward (opened u) (λ s′. replayFrom e (last - (n + 1)) s′ (n + 1) (replayEntry e (e (n + 1)) s n t))
+    replay-on =
+        let z : last - n ≡ suc (last - (n + 1)) = omega arith in
+        p ∙ replay-suc (last - n) (last - (n + 1)) z ∙ rw q
 
-  pub replay-done : last ≤ n → (t′ : List ℕ) → t′ ≡ undoFrom e s (n - s) t → t′ ≡ all
+    pub replay-again : (s′ : ℕ) → u ≡ Open s′ → (t′ : List ℕ) → t′ ≡ replayEntry e (e (n + 1)) s n t → all ≡ replayFrom e (last - (n + 1)) s′ (n + 1) t′
+    replay-again s′ o t′ r =
+        replay-on ∙ ap (λ v. onward (opened v) (λ s″. replayFrom e (last - (n + 1)) s″ (n + 1) (replayEntry e (e (n + 1)) s n t))) o ∙ rw r
+
+    pub replay-refused : u ≡ Malformed → none ≡ all
+    replay-refused o =
+        sym (replay-on ∙ ap (λ v. onward (opened v) (λ s″. replayFrom e (last - (n + 1)) s″ (n + 1) (replayEntry e (e (n + 1)) s n t))) o)
+
+  pub replay-done : last ≤ n → (t′ : List ℕ) → t′ ≡ undoFrom e s (n - s) t → some t′ ≡ all
   unfolding replayFrom
-  replay-done h t′ q = let z : last - n ≡ 0 = omega arith in q ∙ sym (p ∙ rw z)
+  replay-done h t′ q = let z : last - n ≡ 0 = omega arith in ap some q ∙ sym (p ∙ rw z)
 
 -- how many rows are read
 

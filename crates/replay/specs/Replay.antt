@@ -1,12 +1,15 @@
 -- Replay by entry numbers, as its loops go. The calls' contracts cite the papers' definitions; proofs/Replaying.antt shows that these say
 -- the same.
 use Prim.Native.Nat.{ℕ, zero, suc, _+_, _-_}
+use mathlib.Core.Bool.{Bool, true, false}
 use mathlib.Core.List.{List}
 use mathlib.Core.Option.{Option, none, some}
 use lib.ListN.{length, set}
 use Rattle.scope.specs.Row.{Entry, update, commitEntry, abortEntry}
 use Rattle.replay.specs.declared.scan.Counted.{Counted}
-use Rattle.replay.specs.declared.scan.Counted.the-variants.{Upto, Malformed}
+use Rattle.replay.specs.declared.scan.Counted.the-variants as counts
+use Rattle.replay.specs.declared.entries.Replayed.{Replayed}
+use Rattle.replay.specs.declared.entries.Replayed.the-variants.{Open, Malformed}
 
 -- the last entry that counts, or none where a row does not read
 abbrev pub lastOf : ℕ → Option (List Entry) → Option ℕ
@@ -14,8 +17,8 @@ lastOf h (some es) = some (h + length es)
 lastOf h none = none
 
 abbrev pub upto : Counted → Option ℕ
-upto (Upto e) = some e
-upto Malformed = none
+upto (counts.Upto e) = some e
+upto counts.Malformed = none
 
 -- one entry undone: an update's old value is put back
 abbrev pub undoEntry : Option Entry → List ℕ → List ℕ
@@ -36,13 +39,28 @@ replayEntry e (some commitEntry) s n t = t
 replayEntry e (some abortEntry) s n t = undoFrom e s (n - s) t
 replayEntry e none s n t = t
 
-abbrev pub openAfter : Option Entry → ℕ → ℕ → ℕ
-openAfter (some (update c old new)) s n = s
-openAfter (some commitEntry) s n = n
-openAfter (some abortEntry) s n = n
-openAfter none s n = s
+-- none: the row isn't that entry
+abbrev pub openAfter : Option Entry → ℕ → ℕ → Option ℕ
+openAfter (some (update c old new)) s n = some s
+openAfter (some commitEntry) s n = some n
+openAfter (some abortEntry) s n = some n
+openAfter none s n = none
 
--- `left` entries after n replayed, and what is left open undone
-unfoldable pub replayFrom : (ℕ → Option Entry) → ℕ → ℕ → ℕ → List ℕ → List ℕ
-replayFrom e zero s n t = undoFrom e s (n - s) t
-replayFrom e (suc left) s n t = replayFrom e left (openAfter (e (n + 1)) s (n + 1)) (n + 1) (replayEntry e (e (n + 1)) s n t)
+abbrev pub opened : Replayed → Option ℕ
+opened (Open s) = some s
+opened Malformed = none
+
+abbrev pub onward : Option ℕ → (ℕ → Option (List ℕ)) → Option (List ℕ)
+onward (some s) f = f s
+onward none f = none
+
+-- `left` entries after n replayed, and what is left open undone; none: a row isn't its entry
+unfoldable pub replayFrom : (ℕ → Option Entry) → ℕ → ℕ → ℕ → List ℕ → Option (List ℕ)
+replayFrom e zero s n t = some (undoFrom e s (n - s) t)
+replayFrom e (suc left) s n t =
+    onward (openAfter (e (n + 1)) s (n + 1)) (λ s′. replayFrom e left s′ (n + 1) (replayEntry e (e (n + 1)) s n t))
+
+-- whether each row is its entry, and the table then
+abbrev pub replayed : Bool → List ℕ → Option (List ℕ)
+replayed true t = some t
+replayed false t = none

@@ -1,7 +1,7 @@
 -- `recovery_start` is the papers' start: one law for each way that it ends; scan gives the entries, load and replay the table.
 use borrow.Author.Needs.{needs}
 use native.Mathlib.Omega.{arith}
-use Rattle.recovery.proofs.Recovering.{start-unfit, start-head, start-lent, start-malformed, start-upto, start-done}
+use Rattle.recovery.proofs.Recovering.{start-unfit, start-head, start-lent, start-malformed, start-upto, start-read, start-done}
 use Rattle.recovery.proofs.recovery_start.Statement.{statement}
 use Rattle.recovery.proofs.recovery_start.Tie as tie
 
@@ -93,14 +93,8 @@ replay-requires c κs =
     let u = start-upto (a .medium .now) (a .current .now) (a .first .now) (a .last .now) (a .waiting .now) _ (d .before .start-fits .ensures) (d .if1 .taken) (g .before .before .before .get4 .result) (g .before .before .get42 .result) (g .before .get43 .result) (g .before .before .before .get4 .ensures) (g .before .before .get42 .ensures) (g .before .get43 .ensures) _ (g .scan .ensures) _ (c .before .before .before .before .before .before .e .given .1) (omega arith) in
     (omega arith, (omega arith, u))
 
-clear-requires : tie.Need-clear-requires
-clear-requires c κs = search needs
-
-clear-requires-2 : tie.Need-clear-requires-2
-clear-requires-2 c κs = search needs
-
-upto-requires : tie.Need-upto-requires
-upto-requires c κs = search needs
+no-start-requires-3 : tie.Need-no-start-requires-3
+no-start-requires-3 c κs = search needs
 
 same-length-7 : tie.Need-same-length-7
 same-length-7 c = search needs
@@ -113,11 +107,37 @@ same-length-9 c = search needs
 
 returns-3 : tie.Need-returns-3
 returns-3 c =
-    let r = c .before .before .before .before .before .before .before .before .before .before .before in
+    let r = c .before .before .before .before in
     let g = r .before .before .before .before .before .before .before .before .before in
     let d = g .before .before .before .before in
     let a = d .before .before .before .before .before .before .before .before .before .before .args in
-    start-done (a .medium .now) (a .current .now) (a .first .now) (a .last .now) (a .waiting .now) _ (d .before .start-fits .ensures) (d .if1 .taken) (g .before .before .before .get4 .result) (g .before .before .get42 .result) (g .before .get43 .result) (g .before .before .before .get4 .ensures) (g .before .before .get42 .ensures) (g .before .get43 .ensures) _ (g .scan .ensures) _ (r .before .before .before .before .before .before .before .e .given .1) _ _ _ _ (r .before .before .before .before .load .ensures) (r .replay .ensures) (c .before .before .before .before .before .before .before .clear .ensures) (c .before .before .before .clear2 .ensures) _ (c .upto .ensures)
+    absurd (start-read (a .medium .now) (a .current .now) (a .first .now) (a .last .now) (a .waiting .now) _ (d .before .start-fits .ensures) (d .if1 .taken) (g .before .before .before .get4 .result) (g .before .before .get42 .result) (g .before .get43 .result) (g .before .before .before .get4 .ensures) (g .before .before .get42 .ensures) (g .before .get43 .ensures) _ (g .scan .ensures) _ (r .before .before .before .before .before .before .before .e .given .1) _ _ _ (r .before .before .before .before .load .ensures) (r .replay .ensures) (c .before .if2 .left))
+
+clear-requires : tie.Need-clear-requires
+clear-requires c κs = search needs
+
+clear-requires-2 : tie.Need-clear-requires-2
+clear-requires-2 c κs = search needs
+
+upto-requires : tie.Need-upto-requires
+upto-requires c κs = search needs
+
+same-length-10 : tie.Need-same-length-10
+same-length-10 c = search needs
+
+same-length-11 : tie.Need-same-length-11
+same-length-11 c = search needs
+
+same-length-12 : tie.Need-same-length-12
+same-length-12 c = search needs
+
+returns-4 : tie.Need-returns-4
+returns-4 c =
+    let r = c .before .before .before .before .before .before .before .before .before .before .before .before in
+    let g = r .before .before .before .before .before .before .before .before .before in
+    let d = g .before .before .before .before in
+    let a = d .before .before .before .before .before .before .before .before .before .before .args in
+    start-done (a .medium .now) (a .current .now) (a .first .now) (a .last .now) (a .waiting .now) _ (d .before .start-fits .ensures) (d .if1 .taken) (g .before .before .before .get4 .result) (g .before .before .get42 .result) (g .before .get43 .result) (g .before .before .before .get4 .ensures) (g .before .before .get42 .ensures) (g .before .get43 .ensures) _ (g .scan .ensures) _ (r .before .before .before .before .before .before .before .e .given .1) _ _ _ (r .before .before .before .before .load .ensures) (r .replay .ensures) _ _ (c .before .before .before .before .before .before .before .clear .ensures) (c .before .before .before .clear2 .ensures) (c .before .before .before .before .before .before .before .before .before .if2 .taken) _ (c .upto .ensures)
 
 pub recovery-start-spec : {M : Type 1} → statement M
 recovery-start-spec =
@@ -142,10 +162,15 @@ recovery-start-spec =
     returns-2
     load-requires
     replay-requires
-    clear-requires
-    clear-requires-2
-    upto-requires
+    no-start-requires-3
     same-length-7
     same-length-8
     same-length-9
-    returns-3)
+    returns-3
+    clear-requires
+    clear-requires-2
+    upto-requires
+    same-length-10
+    same-length-11
+    same-length-12
+    returns-4)

@@ -6,7 +6,7 @@ use mathlib.Core.Path.{_≡_, refl, _∙_}
 use native.Mathlib.Omega.{arith}
 use Rattle.journal.specs.Entries.{entryIn}
 use Rattle.scope.specs.Keeper.{rowAt}
-use Rattle.replay.proofs.Turns.{replay-again, replay-done}
+use Rattle.replay.proofs.Turns.{replay-again, replay-refused, replay-done}
 use Rattle.replay.specs.Replay.{replayFrom}
 use Rattle.replay.proofs.entries.replay.Statement.{statement}
 use Rattle.replay.proofs.entries.replay.Tie as tie
@@ -30,6 +30,20 @@ loop-holds c = (omega arith, (omega arith, (refl, c .first-row .ensures)))
 replay-entry-requires : tie.Need-replay-entry-requires Inv-loop μ-loop
 replay-entry-requires c κs = search needs
 
+enum-known-open : tie.Need-enum-known-open Inv-loop μ-loop
+enum-known-open c = search needs
+
+enum-told : tie.Need-enum-told Inv-loop μ-loop
+enum-told c = search needs
+
+same-length : tie.Need-same-length Inv-loop μ-loop
+same-length c = search needs
+
+returns : tie.Need-returns Inv-loop μ-loop
+returns c =
+    let r = c .before .before .before .before in
+    replay-refused _ _ _ _ _ _ (r .before .before .before .loop .inv .1 .1 .0) (search needs) _ (r .replay-entry .ensures .1) (c .enum-told .given .1)
+
 next-row-requires : tie.Need-next-row-requires Inv-loop μ-loop
 next-row-requires c κs = search needs
 
@@ -40,16 +54,19 @@ loop-less : tie.Need-loop-less Inv-loop μ-loop
 loop-less c = search needs
 
 loop-again : tie.Need-loop-again Inv-loop μ-loop
-loop-again c = (search needs, (c .before .before .before .replay-entry .kept .1 .1 .1 .1 .1 .1 .0 ∙ (c .before .before .before .before .before .before .loop .inv .1 .0), (replay-again _ _ _ _ _ _ (c .before .before .before .before .before .before .loop .inv .1 .1 .0) (search needs) _ _ (c .before .before .before .replay-entry .ensures .0) (c .before .before .before .replay-entry .ensures .1), c .next-row .ensures _ (omega arith) (c .before .before .before .before .before .before .loop .inv .1 .1 .1 .0))))
+loop-again c =
+    let r = c .before .before .before .before .before .before in
+    let l = r .before .before .before .loop in
+    (search needs, (r .replay-entry .kept .1 .1 .1 .1 .1 .1 .0 ∙ l .inv .1 .0, (replay-again _ _ _ _ _ _ (l .inv .1 .1 .0) (search needs) _ (r .replay-entry .ensures .1) _ (c .before .before .«open» .given .1) _ (r .replay-entry .ensures .0), c .next-row .ensures _ (omega arith) (l .inv .1 .1 .1 .0))))
 
 undo-requires : tie.Need-undo-requires Inv-loop μ-loop
 undo-requires c κs = search needs
 
-same-length : tie.Need-same-length Inv-loop μ-loop
-same-length c = search needs
+same-length-2 : tie.Need-same-length-2 Inv-loop μ-loop
+same-length-2 c = search needs
 
-returns : tie.Need-returns Inv-loop μ-loop
-returns c = replay-done _ _ _ _ _ _ (c .before .before .before .before .before .loop .inv .1 .1 .0) (search needs) _ (c .before .before .undo .ensures)
+returns-2 : tie.Need-returns-2 Inv-loop μ-loop
+returns-2 c = replay-done _ _ _ _ _ _ (c .before .before .before .before .before .loop .inv .1 .1 .0) (search needs) _ (c .before .before .undo .ensures)
 
 pub replay-spec : {M : Type 1} → statement M
 replay-spec =
@@ -60,10 +77,14 @@ replay-spec =
     first-row-requires
     loop-holds
     replay-entry-requires
+    enum-known-open
+    enum-told
+    same-length
+    returns
     next-row-requires
     add-n
     loop-less
     loop-again
     undo-requires
-    same-length
-    returns)
+    same-length-2
+    returns-2)
