@@ -5,3 +5,4 @@ pub mod Places
 pub mod RowLaws
 pub mod SevenNumbers
 pub mod Unsound
+pub mod Sames
