@@ -1,7 +1,8 @@
 /* The keeper: a table of cells on a medium that survives power loss, with a journal beside it.
  *
- * Every function here is proved to be the call of document 01 of the same name, for every input: what it answers, the state
- * that it leaves and each byte of what it is lent. None of them allocates, keeps a pointer, reads a clock or fails to return.
+ * Every function here but the last two is proved to be the call of document 01 of the same name, for every input: what it answers,
+ * the state that it leaves and each byte of what it is lent; `keeper_read_row` and `keeper_write_row` are its reading and its writing of
+ * one row. None of them allocates, keeps a pointer, reads a clock or fails to return.
  *
  * What the host lends
  *   A buffer is a pointer and a length in elements. The pointer is aligned for its element, the memory is the host's, and a
@@ -11,7 +12,8 @@
  *     first     N numbers of 32 bits \ which entries changed a cell since it was stored;
  *     last      N numbers of 32 bits /  the keeper writes them, the host only keeps them
  *     waiting   32C bytes: entries made and not yet stored
- *   All but the medium is lost at power loss. A length that is not as N and C say is refused with 1.
+ *   All but the medium is lost at power loss. A length that is not as N and C say is refused with 1, and so is length 0, whose pointer
+ *   is not read and may be null.
  *
  * The state
  *   Seven numbers of 32 bits, that the host lends to each call and does not change:
@@ -21,8 +23,9 @@
  *   are refused with 1.
  *
  * What a call answers
- *   0 when it is done, else the number of the refusal, listed below in the order in which a call tests them. A refused call
- *   writes nothing but the value, which is then 0; recovery start alone writes seven zeros, which is no sound state.
+ *   0 when it is done, else the number of the refusal, below. The order in which a call tests them stands at the call. A refused call
+ *   changes nothing that it is lent but the value, which becomes 0 (most write the state's own numbers back into it); recovery start
+ *   alone writes seven zeros, which is no sound state.
  *     1 the state is not sound, or a length or the head is out of rule     7 a row isn't the entry that the call needs
  *     2 a row with the expected number doesn't read as an entry            8 the cell's last change isn't stored in the journal
  *     3 no transaction is open                                             9 the journal can't be cut there

@@ -53,8 +53,8 @@ impl State {
             return refused(self, no);
         }
         let n = numbers.l + 1;
-        let at = index(cell);
-        let old = current[at];
+        let place = index(cell);
+        let old = current[place];
         journal::append(
             waiting,
             numbers.slots,
@@ -80,9 +80,9 @@ impl State {
         if no != 0 {
             return refused(self, no);
         }
-        let n = numbers.l + 1;
-        journal::append(waiting, numbers.slots, n, Entry::Commit);
-        done(n as u64, made(numbers, n, n), Phase::Idle)
+        let number = numbers.l + 1;
+        journal::append(waiting, numbers.slots, number, Entry::Commit);
+        done(number as u64, made(numbers, number, number), Phase::Idle)
     }
 
     // Abort: in run appends the abort entry and restores the transaction's cells in falling order; in idle it does nothing.

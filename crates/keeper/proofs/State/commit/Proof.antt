@@ -20,8 +20,8 @@ same-length c = search needs
 returns : tie.Need-returns
 returns c = commit-refused _ _ _ _ (c .before .before .commit .ensures) (c .refused .ensures) (c .before .if1 .taken)
 
-add-n : tie.Need-add-n
-add-n c = let w = commit-passed (c .before .before .before .before .before .before .args .self .numbers) (c .before .before .before .before .before .before .args .self .phase) [] [] [] [] (c .before .before .before .before .before .before .args .waiting .now) (sym (c .before .before .commit .ensures) ∙ c .before .if1 .left) in omega (arith, w .2)
+add-number : tie.Need-add-number
+add-number c = let w = commit-passed (c .before .before .before .before .before .before .args .self .numbers) (c .before .before .before .before .before .before .args .self .phase) [] [] [] [] (c .before .before .before .before .before .before .args .waiting .now) (sym (c .before .before .commit .ensures) ∙ c .before .if1 .left) in omega (arith, w .2)
 
 append-requires : tie.Need-append-requires
 append-requires c κs = let w = commit-passed (c .before .before .before .before .before .before .before .args .self .numbers) (c .before .before .before .before .before .before .before .args .self .phase) [] [] [] [] (c .before .before .before .before .before .before .before .args .waiting .now) (sym (c .before .before .before .commit .ensures) ∙ c .before .before .if1 .left) in omega (arith, w .0, w .1, w .2)
@@ -49,7 +49,7 @@ commit-spec =
     refused-requires
     same-length
     returns
-    add-n
+    add-number
     append-requires
     cast-done
     made-requires
