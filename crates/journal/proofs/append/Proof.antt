@@ -4,17 +4,8 @@ use Rattle.journal.proofs.RowPlaces.{appended}
 use Rattle.journal.proofs.append.Statement.{statement}
 use Rattle.journal.proofs.append.Tie as tie
 
-row-at-requires : tie.Need-row-at-requires
-row-at-requires c κs = search needs
-
-put-entry-requires : tie.Need-put-entry-requires
-put-entry-requires c κs = search needs
-
-same-length : tie.Need-same-length
-same-length c = search needs
-
 returns : tie.Need-returns
 returns c = appended _ _ _ _ _ _ (c .before .before .before .row-at .ensures .0) (c .before .before .put-entry .ensures)
 
 pub append-spec : {M : Type 1} → statement M
-append-spec = tie.close (tie.spec row-at-requires put-entry-requires same-length returns)
+append-spec = tie.close (tie.spec (λ c κs. search needs) (λ c κs. search needs) (λ c. search needs) returns)

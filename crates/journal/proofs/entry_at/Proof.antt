@@ -4,17 +4,8 @@ use Rattle.journal.proofs.RowPlaces.{read-part}
 use Rattle.journal.proofs.entry_at.Statement.{statement}
 use Rattle.journal.proofs.entry_at.Tie as tie
 
-row-at-requires : tie.Need-row-at-requires
-row-at-requires c κs = search needs
-
-add-entry-from : tie.Need-add-entry-from
-add-entry-from c = search needs
-
-entry-from-requires : tie.Need-entry-from-requires
-entry-from-requires c κs = search needs
-
 returns : tie.Need-returns
 returns c = read-part _ _ _ _ _ _ _ (c .before .row-at .ensures .0) (c .entry-from .ensures)
 
 pub entry-at-spec : {M : Type 1} → statement M
-entry-at-spec = tie.close (tie.spec row-at-requires add-entry-from entry-from-requires returns)
+entry-at-spec = tie.close (tie.spec (λ c κs. search needs) (λ c. search needs) (λ c κs. search needs) returns)

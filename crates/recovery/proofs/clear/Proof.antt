@@ -18,9 +18,6 @@ abbrev μ-loop : tie.MeasureT-loop
 loop-holds : tie.Need-loop-holds Inv-loop μ-loop
 loop-holds c = (omega arith, (refl, refl))
 
-mul-s : tie.Need-mul-s Inv-loop μ-loop
-mul-s c = search needs
-
 slice-write-s : tie.Need-slice-write-s Inv-loop μ-loop
 slice-write-s c = omega arith
 
@@ -46,7 +43,7 @@ clear-spec =
     Inv-loop
     μ-loop
     loop-holds
-    mul-s
+    (λ c. search needs)
     slice-write-s
     add-i
     loop-less

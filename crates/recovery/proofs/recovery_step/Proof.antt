@@ -5,12 +5,6 @@ use Rattle.recovery.proofs.Recovering.{step-refused, stepping, step-ins
 use Rattle.recovery.proofs.recovery_step.Statement.{statement}
 use Rattle.recovery.proofs.recovery_step.Tie as tie
 
-step-refusal-requires : tie.Need-step-refusal-requires
-step-refusal-requires c κs = search needs
-
-same-length : tie.Need-same-length
-same-length c = search needs
-
 returns : tie.Need-returns
 returns c =
     let a = c .before .before .before .before .before .args in
@@ -21,15 +15,6 @@ lowest-differing-requires c κs =
     let a = c .before .before .before .before .before .before .args in
     let f = stepping (a .numbers) (a .phase) (a .medium .now) (a .current .now) _ (c .before .before .step-refusal .ensures) (omega arith) in
     omega arith
-
-enum-known-found : tie.Need-enum-known-found
-enum-known-found c = search needs
-
-index-requires : tie.Need-index-requires
-index-requires c κs = search needs
-
-mul-store-cell : tie.Need-mul-store-cell
-mul-store-cell c = search needs
 
 shared-slice-read-store-cell : tie.Need-shared-slice-read-store-cell
 shared-slice-read-store-cell c =
@@ -45,9 +30,6 @@ store-cell-requires c κs =
     let a = d .before .before .before .before .before .args in
     step-room (a .numbers) (a .phase) (a .medium .now) (a .current .now) _ (d .before .step-refusal .ensures) (omega arith) _ (g .lowest-differing .ensures) _ (c .before .before .before .before .found .given .1)
 
-same-length-2 : tie.Need-same-length-2
-same-length-2 c = search needs
-
 returns-2 : tie.Need-returns-2
 returns-2 c =
     let g = c .before .before .before .before .before .before .before .before .before in
@@ -55,18 +37,12 @@ returns-2 c =
     let a = d .before .before .before .before .before .args in
     step-cell (a .numbers) (a .phase) (a .medium .now) (a .current .now) _ (d .before .step-refusal .ensures) (omega arith) _ (g .lowest-differing .ensures) _ (c .before .before .before .before .before .before .before .found .given .1) _ _ (c .before .before .before .before .before .index .ensures .0) (c .before .before .store-cell .ensures)
 
-enum-told : tie.Need-enum-told
-enum-told c = search needs
-
 step-end-requires : tie.Need-step-end-requires
 step-end-requires c κs =
     let d = c .before .before .before .before .before in
     let a = d .before .before .before .before .before .args in
     let f = stepping (a .numbers) (a .phase) (a .medium .now) (a .current .now) _ (d .before .step-refusal .ensures) (omega arith) in
     omega arith
-
-same-length-3 : tie.Need-same-length-3
-same-length-3 c = search needs
 
 returns-3 : tie.Need-returns-3
 returns-3 c =
@@ -79,18 +55,18 @@ pub recovery-step-spec : {M : Type 1} → statement M
 recovery-step-spec =
     tie.close
     (tie.spec
-    step-refusal-requires
-    same-length
+    (λ c κs. search needs)
+    (λ c. search needs)
     returns
     lowest-differing-requires
-    enum-known-found
-    index-requires
-    mul-store-cell
+    (λ c. search needs)
+    (λ c κs. search needs)
+    (λ c. search needs)
     shared-slice-read-store-cell
     store-cell-requires
-    same-length-2
+    (λ c. search needs)
     returns-2
-    enum-told
+    (λ c. search needs)
     step-end-requires
-    same-length-3
+    (λ c. search needs)
     returns-3)

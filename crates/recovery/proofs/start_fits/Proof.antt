@@ -5,9 +5,6 @@ use Rattle.recovery.proofs.Recovering.{head-fits, fits-head, fits-curre
 use Rattle.recovery.proofs.start_fits.Statement.{statement}
 use Rattle.recovery.proofs.start_fits.Tie as tie
 
-head-ok-requires : tie.Need-head-ok-requires
-head-ok-requires c κs = search needs
-
 returns : tie.Need-returns
 returns c =
     let a = c .before .before .before .before .before .before .before .args in
@@ -16,14 +13,8 @@ returns c =
 get4-requires : tie.Need-get4-requires
 get4-requires c κs = let f = head-fits _ _ (c .before .head-ok .ensures) (c .if1 .taken) in omega arith
 
-index-requires : tie.Need-index-requires
-index-requires c κs = search needs
-
 get4-requires-2 : tie.Need-get4-requires-2
 get4-requires-2 c κs = let f = head-fits _ _ (c .before .before .before .head-ok .ensures) (c .before .before .if1 .taken) in omega arith
-
-index-requires-2 : tie.Need-index-requires-2
-index-requires-2 c κs = search needs
 
 returns-2 : tie.Need-returns-2
 returns-2 c =
@@ -43,9 +34,6 @@ returns-4 c =
     let a = d .before .before .before .before .before .before .before .args in
     fits-last (a .medium .now) (a .current .now) (a .first .now) (a .last .now) (a .waiting .now) _ (d .before .head-ok .ensures) (d .if1 .taken) (c .before .before .before .before .before .index .result) (omega arith) (omega arith) (omega arith) (omega arith)
 
-mul-result : tie.Need-mul-result
-mul-result c = search needs
-
 returns-5 : tie.Need-returns-5
 returns-5 c =
     let d = c .before .before .before .before .before .before .before in
@@ -56,14 +44,14 @@ pub start-fits-spec : {M : Type 1} → statement M
 start-fits-spec =
     tie.close
     (tie.spec
-    head-ok-requires
+    (λ c κs. search needs)
     returns
     get4-requires
-    index-requires
+    (λ c κs. search needs)
     get4-requires-2
-    index-requires-2
+    (λ c κs. search needs)
     returns-2
     returns-3
     returns-4
-    mul-result
+    (λ c. search needs)
     returns-5)

@@ -8,14 +8,8 @@ use Rattle.recovery.proofs.step_end.Tie as tie
 returns : tie.Need-returns
 returns c = λ phase current. end-clean (c .before .before .before .args .numbers) phase _ current (omega arith)
 
-store-head-requires : tie.Need-store-head-requires
-store-head-requires c κs = search needs
-
-same-length : tie.Need-same-length
-same-length c = search needs
-
 returns-2 : tie.Need-returns-2
 returns-2 c = λ phase current. end-head (c .before .before .before .before .before .before .before .args .numbers) phase _ current (omega arith) _ (c .before .before .store-head .ensures)
 
 pub step-end-spec : {M : Type 1} → statement M
-step-end-spec = tie.close (tie.spec returns store-head-requires same-length returns-2)
+step-end-spec = tie.close (tie.spec returns (λ c κs. search needs) (λ c. search needs) returns-2)

@@ -6,26 +6,8 @@ use Rattle.recovery.proofs.Recovering.{refusal-is}
 use Rattle.recovery.proofs.step_refusal.Statement.{statement}
 use Rattle.recovery.proofs.step_refusal.Tie as tie
 
-fits-medium-requires : tie.Need-fits-medium-requires
-fits-medium-requires c κs = search needs
-
-fits-cells-requires : tie.Need-fits-cells-requires
-fits-cells-requires c κs = search needs
-
-both-requires : tie.Need-both-requires
-both-requires c κs = search needs
-
-sound-requires : tie.Need-sound-requires
-sound-requires c κs = search needs
-
-both-requires-2 : tie.Need-both-requires-2
-both-requires-2 c κs = search needs
-
 returns : tie.Need-returns
 returns c = refusal-is _ _ _ _ _ (c .before .before .sound .ensures) refl _ _ _ _ _ 1 _ (c .before .before .before .before .before .fits-medium .ensures) (c .before .before .before .before .fits-cells .ensures) (c .before .before .before .both .ensures) (c .before .both2 .ensures) refl (unfit-stop _ _ (c .if1 .left))
-
-is-recovering-requires : tie.Need-is-recovering-requires
-is-recovering-requires c κs = search needs
 
 returns-2 : tie.Need-returns-2
 returns-2 c = refusal-is _ _ _ _ _ (c .before .before .before .before .sound .ensures) (c .before .is-recovering .ensures) _ _ _ _ _ 0 0 (c .before .before .before .before .before .before .before .fits-medium .ensures) (c .before .before .before .before .before .before .fits-cells .ensures) (c .before .before .before .before .before .both .ensures) (c .before .before .before .both2 .ensures) (pass _ 10 0 0 (not-true _ (c .if2 .taken)) refl) (fit-pass _ 0 0 (c .before .before .if1 .taken) refl)
@@ -37,12 +19,12 @@ pub step-refusal-spec : {M : Type 1} → statement M
 step-refusal-spec =
     tie.close
     (tie.spec
-    fits-medium-requires
-    fits-cells-requires
-    both-requires
-    sound-requires
-    both-requires-2
+    (λ c κs. search needs)
+    (λ c κs. search needs)
+    (λ c κs. search needs)
+    (λ c κs. search needs)
+    (λ c κs. search needs)
     returns
-    is-recovering-requires
+    (λ c κs. search needs)
     returns-2
     returns-3)

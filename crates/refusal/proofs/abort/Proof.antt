@@ -9,20 +9,11 @@ use Rattle.refusal.proofs.Tables.{abort-early, abort-late, unsound, unl
 use Rattle.refusal.proofs.abort.Statement.{statement}
 use Rattle.refusal.proofs.abort.Tie as tie
 
-sound-requires : tie.Need-sound-requires
-sound-requires c κs = search needs
-
 returns : tie.Need-returns
 returns c = abort-early _ _ _ _ _ (c .before .sound .ensures) refl _ _ _ _ _ refl refl 1 (unfit-stop _ _ (unsound _ _ (c .if1 .left))) (λ z. omega arith)
 
-fits-desk-requires : tie.Need-fits-desk-requires
-fits-desk-requires c κs = search needs
-
 returns-2 : tie.Need-returns-2
 returns-2 c = abort-early _ _ _ _ _ (c .before .before .before .sound .ensures) refl _ _ _ _ _ (c .before .fits-desk .ensures) refl 1 (unfit-stop _ _ (unlent _ _ (c .before .before .if1 .taken) (c .if2 .left))) (λ z. omega arith)
-
-is-recovering-requires : tie.Need-is-recovering-requires
-is-recovering-requires c κs = search needs
 
 returns-3 : tie.Need-returns-3
 returns-3 c = abort-early _ _ _ _ _ (c .before .before .before .before .before .sound .ensures) refl _ _ _ _ _ (c .before .before .before .fits-desk .ensures) refl 10 (fit-pass _ 10 _ (fit _ _ (c .before .before .before .before .if1 .taken) (c .before .before .if2 .taken)) (stop _ 10 0 (sym (c .before .is-recovering .ensures) ∙ (c .if3 .taken)))) (λ z. omega arith)
@@ -34,9 +25,6 @@ not-updates-requires c κs =
     let d = desk-fits (a .numbers .cells) (a .numbers .slots) (a .current .now) (a .first .now) (a .last .now) (a .waiting .now) _ (c .before .before .before .fits-desk .ensures) (c .before .before .if2 .taken) in
     rows-fit _ _ _ 0 1 s (omega arith) (omega arith)
 
-refuse-requires : tie.Need-refuse-requires
-refuse-requires c κs = search needs
-
 returns-4 : tie.Need-returns-4
 returns-4 c = abort-late _ _ _ _ _ (c .before .before .before .before .before .before .before .sound .ensures) refl _ _ _ _ _ (c .before .before .before .before .before .fits-desk .ensures) refl 0 _ _ (fit-pass _ 0 _ (fit _ _ (c .before .before .before .before .before .before .if1 .taken) (c .before .before .before .before .if2 .taken)) (pass _ 10 0 0 (sym (c .before .before .before .is-recovering .ensures) ∙ (c .before .before .if3 .left)) refl)) refl (c .before .not-updates .ensures) (c .refuse .ensures)
 
@@ -44,12 +32,12 @@ pub abort-spec : {M : Type 1} → statement M
 abort-spec =
     tie.close
     (tie.spec
-    sound-requires
+    (λ c κs. search needs)
     returns
-    fits-desk-requires
+    (λ c κs. search needs)
     returns-2
-    is-recovering-requires
+    (λ c κs. search needs)
     returns-3
     not-updates-requires
-    refuse-requires
+    (λ c κs. search needs)
     returns-4)

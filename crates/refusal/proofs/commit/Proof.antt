@@ -6,26 +6,11 @@ use Rattle.refusal.proofs.Tables.{commit-is}
 use Rattle.refusal.proofs.commit.Statement.{statement}
 use Rattle.refusal.proofs.commit.Tie as tie
 
-sound-requires : tie.Need-sound-requires
-sound-requires c κs = search needs
-
-fits-rows-requires : tie.Need-fits-rows-requires
-fits-rows-requires c κs = search needs
-
-both-requires : tie.Need-both-requires
-both-requires c κs = search needs
-
 returns : tie.Need-returns
 returns c = commit-is _ _ _ _ _ (c .before .before .before .sound .ensures) refl _ _ _ 1 _ _ (c .before .before .fits-rows .ensures) (c .before .both .ensures) refl refl refl (unfit-stop _ _ (c .if1 .left))
 
-is-recovering-requires : tie.Need-is-recovering-requires
-is-recovering-requires c κs = search needs
-
 returns-2 : tie.Need-returns-2
 returns-2 c = commit-is _ _ _ _ _ (c .before .before .before .before .before .sound .ensures) (c .before .is-recovering .ensures) _ _ _ 10 10 _ (c .before .before .before .before .fits-rows .ensures) (c .before .before .before .both .ensures) refl refl (stop _ 10 _ (c .if2 .taken)) (fit-pass _ 10 10 (c .before .before .if1 .taken) refl)
-
-is-idle-requires : tie.Need-is-idle-requires
-is-idle-requires c κs = search needs
 
 returns-3 : tie.Need-returns-3
 returns-3 c = commit-is _ _ _ _ _ (c .before .before .before .before .before .before .before .sound .ensures) (c .before .before .before .is-recovering .ensures) _ _ _ 3 3 3 (c .before .before .before .before .before .before .fits-rows .ensures) (c .before .before .before .before .before .both .ensures) (c .before .is-idle .ensures) (stop _ 3 _ (c .if3 .taken)) (pass _ 10 3 3 (c .before .before .if2 .left) refl) (fit-pass _ 3 3 (c .before .before .before .before .if1 .taken) refl)
@@ -37,12 +22,12 @@ pub commit-spec : {M : Type 1} → statement M
 commit-spec =
     tie.close
     (tie.spec
-    sound-requires
-    fits-rows-requires
-    both-requires
+    (λ c κs. search needs)
+    (λ c κs. search needs)
+    (λ c κs. search needs)
     returns
-    is-recovering-requires
+    (λ c κs. search needs)
     returns-2
-    is-idle-requires
+    (λ c κs. search needs)
     returns-3
     returns-4)

@@ -9,39 +9,18 @@ use Rattle.refusal.proofs.Tables.{cut-early, cut-middle, cut-late, unso
 use Rattle.refusal.proofs.cut.Statement.{statement}
 use Rattle.refusal.proofs.cut.Tie as tie
 
-sound-requires : tie.Need-sound-requires
-sound-requires c κs = search needs
-
 returns : tie.Need-returns
 returns c = cut-early _ _ _ _ _ (c .before .sound .ensures) refl _ _ _ _ _ _ _ _ refl refl refl refl refl refl 1 _ _ refl refl (unfit-stop _ _ (unsound _ _ (c .if1 .left))) (λ z. omega arith)
-
-fits-medium-requires : tie.Need-fits-medium-requires
-fits-medium-requires c κs = search needs
-
-fits-cells-requires : tie.Need-fits-cells-requires
-fits-cells-requires c κs = search needs
-
-both-requires : tie.Need-both-requires
-both-requires c κs = search needs
 
 returns-2 : tie.Need-returns-2
 returns-2 c =
     let d = c .before in
     cut-early _ _ _ _ _ (d .before .before .before .before .sound .ensures) refl _ _ _ _ _ _ _ _ (d .before .before .fits-medium .ensures) (d .before .fits-cells .ensures) (d .both .ensures) refl refl refl 1 _ _ refl refl (unfit-stop _ _ (unlent _ _ (d .before .before .before .if1 .taken) (c .if2 .left))) (λ z. omega arith)
 
-is-recovering-requires : tie.Need-is-recovering-requires
-is-recovering-requires c κs = search needs
-
 returns-3 : tie.Need-returns-3
 returns-3 c =
     let d = c .before .before .before in
     cut-early _ _ _ _ _ (d .before .before .before .before .sound .ensures) (c .before .is-recovering .ensures) _ _ _ _ _ _ _ _ (d .before .before .fits-medium .ensures) (d .before .fits-cells .ensures) (d .both .ensures) refl refl refl 10 10 _ refl (stop _ 10 _ (c .if3 .taken)) (fit-pass _ 10 10 (fit _ _ (d .before .before .before .if1 .taken) (c .before .before .if2 .taken)) refl) (λ z. omega arith)
-
-either-requires : tie.Need-either-requires
-either-requires c κs = search needs
-
-either-requires-2 : tie.Need-either-requires-2
-either-requires-2 c κs = search needs
 
 returns-4 : tie.Need-returns-4
 returns-4 c =
@@ -61,12 +40,6 @@ returns-5 c =
     let d = c .before .before .before .before .before .before .before .before .before .before .before in
     cut-middle _ _ _ _ _ (d .before .before .before .before .sound .ensures) (c .before .before .before .before .before .before .before .before .before .is-recovering .ensures) _ _ _ _ _ _ _ _ (d .before .before .fits-medium .ensures) (d .before .fits-cells .ensures) (d .both .ensures) refl (c .before .before .before .before .either .ensures) (c .before .before .before .either2 .ensures) 0 0 0 (pass _ 9 0 0 (c .before .before .if4 .left) refl) (pass _ 10 0 0 (c .before .before .before .before .before .before .before .before .if3 .left) refl) (fit-pass _ 0 0 (fit _ _ (d .before .before .before .if1 .taken) (c .before .before .before .before .before .before .before .before .before .before .if2 .taken)) refl) _ (c .before .cut-row .ensures) refl (c .if5 .taken)
 
-any-first-requires : tie.Need-any-first-requires
-any-first-requires c κs = search needs
-
-refuse-requires : tie.Need-refuse-requires
-refuse-requires c κs = search needs
-
 returns-6 : tie.Need-returns-6
 returns-6 c =
     let d = c .before .before .before .before .before .before .before .before .before .before .before .before .before in
@@ -76,19 +49,19 @@ pub cut-spec : {M : Type 1} → statement M
 cut-spec =
     tie.close
     (tie.spec
-    sound-requires
+    (λ c κs. search needs)
     returns
-    fits-medium-requires
-    fits-cells-requires
-    both-requires
+    (λ c κs. search needs)
+    (λ c κs. search needs)
+    (λ c κs. search needs)
     returns-2
-    is-recovering-requires
+    (λ c κs. search needs)
     returns-3
-    either-requires
-    either-requires-2
+    (λ c κs. search needs)
+    (λ c κs. search needs)
     returns-4
     cut-row-requires
     returns-5
-    any-first-requires
-    refuse-requires
+    (λ c κs. search needs)
+    (λ c κs. search needs)
     returns-6)

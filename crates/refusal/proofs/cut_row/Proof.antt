@@ -14,20 +14,8 @@ returns c = moved-same _ _ _ (omega arith)
 returns-2 : tie.Need-returns-2
 returns-2 c = moved-none _ _ _ (omega arith) (entry-zero _ _ _ _ _ (omega arith))
 
-entry-at-requires : tie.Need-entry-at-requires
-entry-at-requires c κs = search needs
-
-enum-known-what : tie.Need-enum-known-what
-enum-known-what c = search needs
-
-enum-told : tie.Need-enum-told
-enum-told c = search needs
-
 returns-3 : tie.Need-returns-3
 returns-3 c = moved-none _ _ _ (omega arith) (ap isEntry (is-nothing _ _ (c .before .before .entry-at .ensures) (c .enum-told .given .1)))
-
-enum-told-2 : tie.Need-enum-told-2
-enum-told-2 c = search needs
 
 returns-4 : tie.Need-returns-4
 returns-4 c = moved-end _ _ _ (omega arith) (ap isEntry (is-some _ _ (c .before .before .before .before .entry-at .ensures) _ (c .before .before .what .given .1))) (is-end _ _ (c .before .before .before .before .entry-at .ensures) _ (c .before .before .what .given .1) (c .match2 .keys2))
@@ -41,10 +29,10 @@ cut-row-spec =
     (tie.spec
     returns
     returns-2
-    entry-at-requires
-    enum-known-what
-    enum-told
+    (λ c κs. search needs)
+    (λ c. search needs)
+    (λ c. search needs)
     returns-3
-    enum-told-2
+    (λ c. search needs)
     returns-4
     returns-5)

@@ -10,26 +10,8 @@ use Rattle.refusal.proofs.Tables.{force-early, force-none, force-entry,
 use Rattle.refusal.proofs.force.Statement.{statement}
 use Rattle.refusal.proofs.force.Tie as tie
 
-fits-medium-requires : tie.Need-fits-medium-requires
-fits-medium-requires c κs = search needs
-
-fits-rows-requires : tie.Need-fits-rows-requires
-fits-rows-requires c κs = search needs
-
-both-requires : tie.Need-both-requires
-both-requires c κs = search needs
-
-sound-requires : tie.Need-sound-requires
-sound-requires c κs = search needs
-
-both-requires-2 : tie.Need-both-requires-2
-both-requires-2 c κs = search needs
-
 returns : tie.Need-returns
 returns c = force-early _ _ _ _ _ (c .before .before .sound .ensures) refl _ _ _ _ _ (c .before .before .before .before .before .fits-medium .ensures) (c .before .before .before .before .fits-rows .ensures) (c .before .before .before .both .ensures) (c .before .both2 .ensures) 1 (unfit-stop _ _ (c .if1 .left)) (λ z. omega arith)
-
-is-recovering-requires : tie.Need-is-recovering-requires
-is-recovering-requires c κs = search needs
 
 returns-2 : tie.Need-returns-2
 returns-2 c = force-early _ _ _ _ _ (c .before .before .before .before .sound .ensures) refl _ _ _ _ _ (c .before .before .before .before .before .before .before .fits-medium .ensures) (c .before .before .before .before .before .before .fits-rows .ensures) (c .before .before .before .before .before .both .ensures) (c .before .before .before .both2 .ensures) 10 (fit-pass _ 10 _ (c .before .before .if1 .taken) (stop _ 10 0 (sym (c .before .is-recovering .ensures) ∙ (c .if2 .taken)))) (λ z. omega arith)
@@ -37,17 +19,8 @@ returns-2 c = force-early _ _ _ _ _ (c .before .before .before .before .sound .e
 returns-3 : tie.Need-returns-3
 returns-3 c = force-none _ _ _ _ _ (c .before .before .before .before .before .before .sound .ensures) refl _ _ _ _ _ (c .before .before .before .before .before .before .before .before .before .fits-medium .ensures) (c .before .before .before .before .before .before .before .before .fits-rows .ensures) (c .before .before .before .before .before .before .before .both .ensures) (c .before .before .before .before .before .both2 .ensures) 0 (fit-pass _ 0 _ (c .before .before .before .before .if1 .taken) (pass _ 10 0 0 (sym (c .before .before .before .is-recovering .ensures) ∙ (c .before .before .if2 .left)) refl)) refl (omega arith)
 
-add-n : tie.Need-add-n
-add-n c = search needs
-
 entry-at-requires : tie.Need-entry-at-requires
 entry-at-requires c κs = let s = is-sound (c .before .before .before .before .before .before .before .before .before .before .before .before .before .args .numbers) (c .before .before .before .before .before .before .before .before .before .before .before .before .before .args .phase) _ _ _ (c .before .before .before .before .before .before .before .sound .ensures) (c .before .before .before .before .before .before .both2 .ensures) (c .before .before .before .before .before .if1 .taken) in let d = pair-fits (c .before .before .before .before .before .before .before .before .before .before .before .before .before .args .numbers) (c .before .before .before .before .before .before .before .before .before .before .before .before .before .args .medium .now) (c .before .before .before .before .before .before .before .before .before .before .before .before .before .args .waiting .now) _ _ _ (c .before .before .before .before .before .before .before .before .before .before .fits-medium .ensures) (c .before .before .before .before .before .before .before .before .before .fits-rows .ensures) (c .before .before .before .before .before .before .before .before .both .ensures) (is-lent _ _ _ _ _ (c .before .before .before .before .before .before .before .sound .ensures) (c .before .before .before .before .before .before .both2 .ensures) (c .before .before .before .before .before .if1 .taken)) in rows-fit _ _ _ 0 _ s (omega arith) (omega arith)
-
-enum-told : tie.Need-enum-told
-enum-told c = search needs
-
-enum-told-2 : tie.Need-enum-told-2
-enum-told-2 c = search needs
 
 returns-4 : tie.Need-returns-4
 returns-4 c = force-other _ _ _ _ _ (c .before .before .before .before .before .before .before .before .before .before .sound .ensures) refl _ _ _ _ _ (c .before .before .before .before .before .before .before .before .before .before .before .before .before .fits-medium .ensures) (c .before .before .before .before .before .before .before .before .before .before .before .before .fits-rows .ensures) (c .before .before .before .before .before .before .before .before .before .before .before .both .ensures) (c .before .before .before .before .before .before .before .before .before .both2 .ensures) 0 (fit-pass _ 0 _ (c .before .before .before .before .before .before .before .before .if1 .taken) (pass _ 10 0 0 (sym (c .before .before .before .before .before .before .before .is-recovering .ensures) ∙ (c .before .before .before .before .before .before .if2 .left)) refl)) refl (omega arith) (ap isEntry (is-nothing _ _ (c .before .before .entry-at .ensures) (c .enum-told2 .given .1)))
@@ -59,18 +32,18 @@ pub force-spec : {M : Type 1} → statement M
 force-spec =
     tie.close
     (tie.spec
-    fits-medium-requires
-    fits-rows-requires
-    both-requires
-    sound-requires
-    both-requires-2
+    (λ c κs. search needs)
+    (λ c κs. search needs)
+    (λ c κs. search needs)
+    (λ c κs. search needs)
+    (λ c κs. search needs)
     returns
-    is-recovering-requires
+    (λ c κs. search needs)
     returns-2
     returns-3
-    add-n
+    (λ c. search needs)
     entry-at-requires
-    enum-told
-    enum-told-2
+    (λ c. search needs)
+    (λ c. search needs)
     returns-4
     returns-5)

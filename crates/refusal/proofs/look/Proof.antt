@@ -6,29 +6,8 @@ use Rattle.refusal.proofs.Tables.{look-is}
 use Rattle.refusal.proofs.look.Statement.{statement}
 use Rattle.refusal.proofs.look.Tie as tie
 
-fits-medium-requires : tie.Need-fits-medium-requires
-fits-medium-requires c κs = search needs
-
-fits-rows-requires : tie.Need-fits-rows-requires
-fits-rows-requires c κs = search needs
-
-both-requires : tie.Need-both-requires
-both-requires c κs = search needs
-
-sound-requires : tie.Need-sound-requires
-sound-requires c κs = search needs
-
-both-requires-2 : tie.Need-both-requires-2
-both-requires-2 c κs = search needs
-
-either-requires : tie.Need-either-requires
-either-requires c κs = search needs
-
 returns : tie.Need-returns
 returns c = look-is _ _ _ _ _ (c .before .before .before .before .before .sound .ensures) refl _ _ _ _ _ _ _ 1 _ _ (c .before .before .before .before .before .before .before .before .fits-medium .ensures) (c .before .before .before .before .before .before .before .fits-rows .ensures) (c .before .before .before .before .before .before .both .ensures) (c .before .before .before .before .both2 .ensures) (c .before .either .ensures) refl refl (unfit-stop _ _ (c .if1 .left))
-
-is-recovering-requires : tie.Need-is-recovering-requires
-is-recovering-requires c κs = search needs
 
 returns-2 : tie.Need-returns-2
 returns-2 c = look-is _ _ _ _ _ (c .before .before .before .before .before .before .before .sound .ensures) (c .before .is-recovering .ensures) _ _ _ _ _ _ _ 10 10 _ (c .before .before .before .before .before .before .before .before .before .before .fits-medium .ensures) (c .before .before .before .before .before .before .before .before .before .fits-rows .ensures) (c .before .before .before .before .before .before .before .before .both .ensures) (c .before .before .before .before .before .before .both2 .ensures) (c .before .before .before .either .ensures) refl (stop _ 10 _ (c .if2 .taken)) (fit-pass _ 10 10 (c .before .before .if1 .taken) refl)
@@ -43,14 +22,14 @@ pub look-spec : {M : Type 1} → statement M
 look-spec =
     tie.close
     (tie.spec
-    fits-medium-requires
-    fits-rows-requires
-    both-requires
-    sound-requires
-    both-requires-2
-    either-requires
+    (λ c κs. search needs)
+    (λ c κs. search needs)
+    (λ c κs. search needs)
+    (λ c κs. search needs)
+    (λ c κs. search needs)
+    (λ c κs. search needs)
     returns
-    is-recovering-requires
+    (λ c κs. search needs)
     returns-2
     returns-3
     returns-4)

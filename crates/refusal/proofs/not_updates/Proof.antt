@@ -4,17 +4,11 @@ use Rattle.refusal.proofs.Tables.{not-run, in-run}
 use Rattle.refusal.proofs.not_updates.Statement.{statement}
 use Rattle.refusal.proofs.not_updates.Tie as tie
 
-is-run-requires : tie.Need-is-run-requires
-is-run-requires c κs = search needs
-
 returns : tie.Need-returns
 returns c = not-run _ _ _ _ (c .before .is-run .ensures) (c .if1 .left)
-
-all-updates-requires : tie.Need-all-updates-requires
-all-updates-requires c κs = search needs
 
 returns-2 : tie.Need-returns-2
 returns-2 c = in-run _ _ _ _ (c .before .before .is-run .ensures) _ (c .before .if1 .taken) (c .all-updates .ensures)
 
 pub not-updates-spec : {M : Type 1} → statement M
-not-updates-spec = tie.close (tie.spec is-run-requires returns all-updates-requires returns-2)
+not-updates-spec = tie.close (tie.spec (λ c κs. search needs) returns (λ c κs. search needs) returns-2)

@@ -8,26 +8,11 @@ use Rattle.refusal.proofs.Tables.{write-is}
 use Rattle.refusal.proofs.write.Statement.{statement}
 use Rattle.refusal.proofs.write.Tie as tie
 
-fits-desk-requires : tie.Need-fits-desk-requires
-fits-desk-requires c κs = search needs
-
-sound-requires : tie.Need-sound-requires
-sound-requires c κs = search needs
-
-both-requires : tie.Need-both-requires
-both-requires c κs = search needs
-
 returns : tie.Need-returns
 returns c = write-is _ _ _ _ _ (c .before .before .sound .ensures) refl _ _ _ _ _ (c .before .before .before .fits-desk .ensures) (c .before .both .ensures) _ _ _ _ 1 _ _ _ _ _ refl refl refl refl refl refl refl refl (unfit-stop _ _ (c .if1 .left))
 
-is-recovering-requires : tie.Need-is-recovering-requires
-is-recovering-requires c κs = search needs
-
 returns-2 : tie.Need-returns-2
 returns-2 c = write-is _ _ _ _ _ (c .before .before .before .before .sound .ensures) (c .before .is-recovering .ensures) _ _ _ _ _ (c .before .before .before .before .before .fits-desk .ensures) (c .before .before .before .both .ensures) _ _ _ _ 10 10 _ _ _ _ refl refl refl refl refl refl refl (stop _ 10 _ (c .if2 .taken)) (fit-pass _ 10 10 (c .before .before .if1 .taken) refl)
-
-is-idle-requires : tie.Need-is-idle-requires
-is-idle-requires c κs = search needs
 
 returns-3 : tie.Need-returns-3
 returns-3 c = write-is _ _ _ _ _ (c .before .before .before .before .before .before .sound .ensures) (c .before .before .before .is-recovering .ensures) _ _ _ _ _ (c .before .before .before .before .before .before .before .fits-desk .ensures) (c .before .before .before .before .before .both .ensures) _ _ _ _ 3 3 3 _ _ _ (c .before .is-idle .ensures) refl refl refl refl refl (stop _ 3 _ (c .if3 .taken)) (pass _ 10 3 3 (c .before .before .if2 .left) refl) (fit-pass _ 3 3 (c .before .before .before .before .if1 .taken) refl)
@@ -35,14 +20,8 @@ returns-3 c = write-is _ _ _ _ _ (c .before .before .before .before .before .bef
 returns-4 : tie.Need-returns-4
 returns-4 c = write-is _ _ _ _ _ (c .before .before .before .before .before .before .before .before .sound .ensures) (c .before .before .before .before .before .is-recovering .ensures) _ _ _ _ _ (c .before .before .before .before .before .before .before .before .before .fits-desk .ensures) (c .before .before .before .before .before .before .before .both .ensures) _ _ _ _ 4 4 4 4 _ _ (c .before .before .before .is-idle .ensures) refl refl refl refl (stop _ 4 _ (le-leb (c .before .before .before .before .before .before .before .before .before .before .before .before .before .before .args .numbers .cells) (c .before .before .before .before .before .before .before .before .before .before .before .before .before .before .args .cell) (omega arith))) (pass _ 3 4 4 (c .before .before .if3 .left) refl) (pass _ 10 4 4 (c .before .before .before .before .if2 .left) refl) (fit-pass _ 4 4 (c .before .before .before .before .before .before .if1 .taken) refl)
 
-full-requires : tie.Need-full-requires
-full-requires c κs = search needs
-
 returns-5 : tie.Need-returns-5
 returns-5 c = write-is _ _ _ _ _ (c .before .before .before .before .before .before .before .before .before .before .sound .ensures) (c .before .before .before .before .before .before .before .is-recovering .ensures) _ _ _ _ _ (c .before .before .before .before .before .before .before .before .before .before .before .fits-desk .ensures) (c .before .before .before .before .before .before .before .before .before .both .ensures) _ _ _ _ 5 5 5 5 5 _ (c .before .before .before .before .before .is-idle .ensures) (c .before .full .ensures) refl refl (stop _ 5 _ (c .if5 .taken)) (pass _ 4 5 5 (lt-leb (c .before .before .before .before .before .before .before .before .before .before .before .before .before .before .before .before .args .numbers .cells) (c .before .before .before .before .before .before .before .before .before .before .before .before .before .before .before .before .args .cell) (omega arith)) refl) (pass _ 3 5 5 (c .before .before .before .before .if3 .left) refl) (pass _ 10 5 5 (c .before .before .before .before .before .before .if2 .left) refl) (fit-pass _ 5 5 (c .before .before .before .before .before .before .before .before .if1 .taken) refl)
-
-used-up-requires : tie.Need-used-up-requires
-used-up-requires c κs = search needs
 
 returns-6 : tie.Need-returns-6
 returns-6 c = write-is _ _ _ _ _ (c .before .before .before .before .before .before .before .before .before .before .before .before .sound .ensures) (c .before .before .before .before .before .before .before .before .before .is-recovering .ensures) _ _ _ _ _ (c .before .before .before .before .before .before .before .before .before .before .before .before .before .fits-desk .ensures) (c .before .before .before .before .before .before .before .before .before .before .before .both .ensures) _ _ _ _ 6 6 6 6 6 6 (c .before .before .before .before .before .before .before .is-idle .ensures) (c .before .before .before .full .ensures) (c .before .used-up .ensures) (stop _ 6 _ (c .if6 .taken)) (pass _ 5 6 6 (c .before .before .if5 .left) refl) (pass _ 4 6 6 (lt-leb (c .before .before .before .before .before .before .before .before .before .before .before .before .before .before .before .before .before .before .args .numbers .cells) (c .before .before .before .before .before .before .before .before .before .before .before .before .before .before .before .before .before .before .args .cell) (omega arith)) refl) (pass _ 3 6 6 (c .before .before .before .before .before .before .if3 .left) refl) (pass _ 10 6 6 (c .before .before .before .before .before .before .before .before .if2 .left) refl) (fit-pass _ 6 6 (c .before .before .before .before .before .before .before .before .before .before .if1 .taken) refl)
@@ -54,17 +33,17 @@ pub write-spec : {M : Type 1} → statement M
 write-spec =
     tie.close
     (tie.spec
-    fits-desk-requires
-    sound-requires
-    both-requires
+    (λ c κs. search needs)
+    (λ c κs. search needs)
+    (λ c κs. search needs)
     returns
-    is-recovering-requires
+    (λ c κs. search needs)
     returns-2
-    is-idle-requires
+    (λ c κs. search needs)
     returns-3
     returns-4
-    full-requires
+    (λ c κs. search needs)
     returns-5
-    used-up-requires
+    (λ c κs. search needs)
     returns-6
     returns-7)

@@ -5,14 +5,8 @@ use Rattle.row.proofs.Reading.{of-update, of-commit, of-abort, of-laden
 use Rattle.row.proofs.of_kind.Statement.{statement}
 use Rattle.row.proofs.of_kind.Tie as tie
 
-bare-requires : tie.Need-bare-requires
-bare-requires c κs = search needs
-
 returns : tie.Need-returns
 returns c = of-commit _ _ _ _ _ (c .before .bare .ensures) (c .if1 .taken) (omega arith)
-
-bare-requires-2 : tie.Need-bare-requires-2
-bare-requires-2 c κs = search needs
 
 returns-2 : tie.Need-returns-2
 returns-2 c = of-abort _ _ _ _ _ (c .before .bare2 .ensures) (c .if2 .taken) (omega arith)
@@ -36,9 +30,9 @@ pub of-kind-spec : {M : Type 1} → statement M
 of-kind-spec =
     tie.close
     (tie.spec
-    bare-requires
+    (λ c κs. search needs)
     returns
-    bare-requires-2
+    (λ c κs. search needs)
     returns-2
     returns-3
     returns-4

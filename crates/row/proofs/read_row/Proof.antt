@@ -12,32 +12,14 @@ returns c = row-short _ _ _ (omega arith)
 returns-2 : tie.Need-returns-2
 returns-2 c = row-zero _ _ _ (omega arith) (omega arith)
 
-get4-requires : tie.Need-get4-requires
-get4-requires c κs = search needs
-
 returns-3 : tie.Need-returns-3
 returns-3 c = row-other _ _ _ (omega arith) (omega arith) (omega arith)
-
-get4-requires-2 : tie.Need-get4-requires-2
-get4-requires-2 c κs = search needs
-
-get8-requires : tie.Need-get8-requires
-get8-requires c κs = search needs
 
 returns-4 : tie.Need-returns-4
 returns-4 c = row-outside _ _ _ (omega arith) (omega arith) (omega arith) (omega arith) (omega arith)
 
-get8-requires-2 : tie.Need-get8-requires-2
-get8-requires-2 c κs = search needs
-
-get8-requires-3 : tie.Need-get8-requires-3
-get8-requires-3 c κs = search needs
-
 cast-of-kind : tie.Need-cast-of-kind
 cast-of-kind c = omega arith
-
-of-kind-requires : tie.Need-of-kind-requires
-of-kind-requires c κs = search needs
 
 returns-5 : tie.Need-returns-5
 returns-5 c =
@@ -50,13 +32,13 @@ read-row-spec =
     (tie.spec
     returns
     returns-2
-    get4-requires
+    (λ c κs. search needs)
     returns-3
-    get4-requires-2
-    get8-requires
+    (λ c κs. search needs)
+    (λ c κs. search needs)
     returns-4
-    get8-requires-2
-    get8-requires-3
+    (λ c κs. search needs)
+    (λ c κs. search needs)
     cast-of-kind
-    of-kind-requires
+    (λ c κs. search needs)
     returns-5)

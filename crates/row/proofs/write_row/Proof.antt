@@ -11,14 +11,8 @@ returns c = write-short _ _ _ (omega arith)
 returns-2 : tie.Need-returns-2
 returns-2 c = write-zero _ _ _ (omega arith) (omega arith)
 
-put-entry-requires : tie.Need-put-entry-requires
-put-entry-requires c κs = search needs
-
-same-length : tie.Need-same-length
-same-length c = search needs
-
 returns-3 : tie.Need-returns-3
 returns-3 c = write-entry _ _ _ _ (omega arith) (omega arith) (c .before .before .put-entry .ensures)
 
 pub write-row-spec : {M : Type 1} → statement M
-write-row-spec = tie.close (tie.spec returns returns-2 put-entry-requires same-length returns-3)
+write-row-spec = tie.close (tie.spec returns returns-2 (λ c κs. search needs) (λ c. search needs) returns-3)

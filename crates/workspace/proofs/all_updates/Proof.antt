@@ -18,9 +18,6 @@ abbrev μ-loop : tie.MeasureT-loop
 loop-holds : tie.Need-loop-holds Inv-loop μ-loop
 loop-holds c = (omega arith, refl)
 
-is-update-requires : tie.Need-is-update-requires Inv-loop μ-loop
-is-update-requires c κs = search needs
-
 returns : tie.Need-returns Inv-loop μ-loop
 returns c = updates-stop _ _ _ _ (c .before .before .before .loop .inv .1) _ (omega arith) (c .before .is-update .ensures) (c .if1 .left)
 
@@ -43,7 +40,7 @@ all-updates-spec =
     Inv-loop
     μ-loop
     loop-holds
-    is-update-requires
+    (λ c κs. search needs)
     returns
     sub-m
     loop-less

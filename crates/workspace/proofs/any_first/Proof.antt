@@ -20,12 +20,6 @@ abbrev μ-loop : tie.MeasureT-loop
 loop-holds : tie.Need-loop-holds Inv-loop μ-loop
 loop-holds c = (omega arith, refl)
 
-mul-mark : tie.Need-mul-mark Inv-loop μ-loop
-mul-mark c = search needs
-
-shared-slice-read-mark : tie.Need-shared-slice-read-mark Inv-loop μ-loop
-shared-slice-read-mark c = search needs
-
 add-i : tie.Need-add-i Inv-loop μ-loop
 add-i c = omega arith
 
@@ -52,8 +46,8 @@ any-first-spec =
     Inv-loop
     μ-loop
     loop-holds
-    mul-mark
-    shared-slice-read-mark
+    (λ c. search needs)
+    (λ c. search needs)
     add-i
     loop-less
     loop-again

@@ -6,20 +6,8 @@ use Rattle.journal.proofs.Meanings.{is-nothing, is-update, is-end}
 use Rattle.workspace.proofs.is_update.Statement.{statement}
 use Rattle.workspace.proofs.is_update.Tie as tie
 
-entry-at-requires : tie.Need-entry-at-requires
-entry-at-requires c κs = search needs
-
-enum-known-what : tie.Need-enum-known-what
-enum-known-what c = search needs
-
-enum-told : tie.Need-enum-told
-enum-told c = search needs
-
 returns : tie.Need-returns
 returns c = ap isUpdate (is-nothing _ _ (c .before .before .entry-at .ensures) (c .enum-told .given .1))
-
-enum-told-2 : tie.Need-enum-told-2
-enum-told-2 c = search needs
 
 returns-2 : tie.Need-returns-2
 returns-2 c = is-end _ _ (c .before .before .before .before .entry-at .ensures) _ (c .before .before .what .given .1) (c .match2 .keys2)
@@ -30,4 +18,4 @@ returns-3 c = ap isUpdate (is-update _ _ (c .before .before .before .before .bef
 pub is-update-spec : {M : Type 1} → statement M
 is-update-spec =
     tie.close
-    (tie.spec entry-at-requires enum-known-what enum-told returns enum-told-2 returns-2 returns-3)
+    (tie.spec (λ c κs. search needs) (λ c. search needs) (λ c. search needs) returns (λ c. search needs) returns-2 returns-3)

@@ -8,20 +8,8 @@ use Rattle.workspace.proofs.Restoring.{restore-other, restore-update}
 use Rattle.workspace.proofs.restore.Statement.{statement}
 use Rattle.workspace.proofs.restore.Tie as tie
 
-entry-at-requires : tie.Need-entry-at-requires
-entry-at-requires c κs = search needs
-
-enum-known-what : tie.Need-enum-known-what
-enum-known-what c = search needs
-
-enum-told : tie.Need-enum-told
-enum-told c = search needs
-
 returns : tie.Need-returns
 returns c = restore-other _ _ _ (ap isUpdate (is-nothing _ _ (c .before .before .entry-at .ensures) (c .enum-told .given .1)))
-
-enum-known-what-2 : tie.Need-enum-known-what-2
-enum-known-what-2 c = search needs
 
 returns-2 : tie.Need-returns-2
 returns-2 c = restore-other _ _ _ (is-end _ _ (c .before .before .before .before .entry-at .ensures) _ (c .before .before .what .given .1) (c .match2 .keys2))
@@ -31,15 +19,6 @@ assign-requires c κs =
     let d = c .before .before .before .before in
     let u = is-update _ _ (d .before .before .before .before .before .entry-at .ensures) _ (d .before .before .before .what .given .1) _ _ _ (d .what2 .given .1) in
     omega (arith, entry-below _ _ _ _ _ _ _ _ u)
-
-same-length : tie.Need-same-length
-same-length c = search needs
-
-same-length-2 : tie.Need-same-length-2
-same-length-2 c = search needs
-
-same-length-3 : tie.Need-same-length-3
-same-length-3 c = search needs
 
 returns-3 : tie.Need-returns-3
 returns-3 c =
@@ -51,14 +30,14 @@ pub restore-spec : {M : Type 1} → statement M
 restore-spec =
     tie.close
     (tie.spec
-    entry-at-requires
-    enum-known-what
-    enum-told
+    (λ c κs. search needs)
+    (λ c. search needs)
+    (λ c. search needs)
     returns
-    enum-known-what-2
+    (λ c. search needs)
     returns-2
     assign-requires
-    same-length
-    same-length-2
-    same-length-3
+    (λ c. search needs)
+    (λ c. search needs)
+    (λ c. search needs)
     returns-3)

@@ -20,9 +20,6 @@ abbrev μ-loop : tie.MeasureT-loop
 loop-holds : tie.Need-loop-holds Inv-loop μ-loop
 loop-holds c = (c .before .before .before .before .pre .1, omega arith, refl)
 
-restore-requires : tie.Need-restore-requires Inv-loop μ-loop
-restore-requires c κs = search needs
-
 sub-m : tie.Need-sub-m Inv-loop μ-loop
 sub-m c = omega arith
 
@@ -35,15 +32,6 @@ loop-again c =
     let b = d .before .before .before .before .before in
     (search needs, omega arith, roll-again _ _ _ _ _ _ _ (b .loop .inv .2) (omega arith) (d .restore .ensures))
 
-same-length : tie.Need-same-length Inv-loop μ-loop
-same-length c = search needs
-
-same-length-2 : tie.Need-same-length-2 Inv-loop μ-loop
-same-length-2 c = search needs
-
-same-length-3 : tie.Need-same-length-3 Inv-loop μ-loop
-same-length-3 c = search needs
-
 returns : tie.Need-returns Inv-loop μ-loop
 returns c = roll-end _ _ _ _ _ _ (c .before .loop .inv .2) (omega arith)
 
@@ -54,11 +42,11 @@ rollback-spec =
     Inv-loop
     μ-loop
     loop-holds
-    restore-requires
+    (λ c κs. search needs)
     sub-m
     loop-less
     loop-again
-    same-length
-    same-length-2
-    same-length-3
+    (λ c. search needs)
+    (λ c. search needs)
+    (λ c. search needs)
     returns)

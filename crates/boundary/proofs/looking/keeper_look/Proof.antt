@@ -7,29 +7,14 @@ use Rattle.boundary.proofs.SevenNumbers.{holds-state, holds-none}
 use Rattle.boundary.proofs.looking.keeper_look.Statement.{statement}
 use Rattle.boundary.proofs.looking.keeper_look.Tie as tie
 
-state-in-requires : tie.Need-state-in-requires
-state-in-requires c κs = search needs
-
-enum-known-s : tie.Need-enum-known-s
-enum-known-s c = search needs
-
-enum-told : tie.Need-enum-told
-enum-told c = search needs
-
 returns : tie.Need-returns
 returns c = looked-none _ _ _ _ _ refl (holds-none _ _ (c .before .before .state-in .ensures) (c .enum-told .given .1))
-
-look-number-requires : tie.Need-look-number-requires
-look-number-requires c κs = search needs
 
 returns-2 : tie.Need-returns-2
 returns-2 c = let h = holds-state _ _ (c .before .before .before .before .before .state-in .ensures) _ (c .before .before .before .s .given .1) in looked-refused _ _ _ _ _ refl (h .is-state) _ (h .read) _ (c .before .look-number .ensures) (omega arith)
 
 row-at-requires : tie.Need-row-at-requires
 row-at-requires c κs = let h = holds-state _ _ (c .before .before .before .before .before .before .state-in .ensures) _ (c .before .before .before .before .s .given .1) in let l = look-facts _ _ _ _ _ refl (h .is-state) _ (h .read) _ (c .before .before .look-number .ensures) (omega arith) in (l .some-slots, l .numbered)
-
-add-value : tie.Need-add-value
-add-value c = search needs
 
 returns-3 : tie.Need-returns-3
 returns-3 c = let h = holds-state _ _ (c .before .before .before .before .before .before .before .before .before .state-in .ensures) _ (c .before .before .before .before .before .before .before .s .given .1) in looked-medium _ _ _ _ _ refl (h .is-state) _ (h .read) _ (c .before .before .before .before .before .look-number .ensures) (omega arith) _ (c .before .before .row-at .ensures .0) (omega arith)
@@ -41,13 +26,13 @@ pub keeper-look-spec : {M : Type 1} → statement M
 keeper-look-spec =
     tie.close
     (tie.spec
-    state-in-requires
-    enum-known-s
-    enum-told
+    (λ c κs. search needs)
+    (λ c. search needs)
+    (λ c. search needs)
     returns
-    look-number-requires
+    (λ c κs. search needs)
     returns-2
     row-at-requires
-    add-value
+    (λ c. search needs)
     returns-3
     returns-4)

@@ -6,23 +6,11 @@ use Rattle.boundary.proofs.Places.{viewed-refused, viewed}
 use Rattle.boundary.proofs.looking.keeper_table_view.Statement.{statement}
 use Rattle.boundary.proofs.looking.keeper_table_view.Tie as tie
 
-table-view-number-requires : tie.Need-table-view-number-requires
-table-view-number-requires c κs = search needs
-
 returns : tie.Need-returns
 returns c = viewed-refused _ _ (c .before .table-view-number .ensures) (omega arith)
 
 get4-requires : tie.Need-get4-requires
 get4-requires c κs = omega (arith, view-fits _ _ (c .before .table-view-number .ensures) (omega arith))
-
-index-requires : tie.Need-index-requires
-index-requires c κs = search needs
-
-mul-value : tie.Need-mul-value
-mul-value c = search needs
-
-add-value : tie.Need-add-value
-add-value c = search needs
 
 returns-2 : tie.Need-returns-2
 returns-2 c = viewed _ _ (c .before .before .before .table-view-number .ensures) (omega arith) _ (omega arith)
@@ -31,10 +19,10 @@ pub keeper-table-view-spec : {M : Type 1} → statement M
 keeper-table-view-spec =
     tie.close
     (tie.spec
-    table-view-number-requires
+    (λ c κs. search needs)
     returns
     get4-requires
-    index-requires
-    mul-value
-    add-value
+    (λ c κs. search needs)
+    (λ c. search needs)
+    (λ c. search needs)
     returns-2)

@@ -16,14 +16,8 @@ slice-write-s c = omega (arith, c .before .before .pre .is-seven)
 slice-write-s-2 : tie.Need-slice-write-s-2
 slice-write-s-2 c = simp length-set (omega (arith, c .before .before .pre .is-seven))
 
-phase-number-requires : tie.Need-phase-number-requires
-phase-number-requires c κs = search needs
-
 slice-write-s-3 : tie.Need-slice-write-s-3
 slice-write-s-3 c = simp length-set (omega (arith, c .before .before .before .pre .is-seven))
-
-same-length : tie.Need-same-length
-same-length c = search needs
 
 returns : tie.Need-returns
 unfolding numbersOf stateOf
@@ -39,7 +33,7 @@ put-made-spec =
     (tie.spec
     slice-write-s
     slice-write-s-2
-    phase-number-requires
+    (λ c κs. search needs)
     slice-write-s-3
-    same-length
+    (λ c. search needs)
     returns)

@@ -10,32 +10,14 @@ use Rattle.boundary.specs.Boundary.{numbersOf}
 use Rattle.boundary.proofs.numbers.put_state.Statement.{statement}
 use Rattle.boundary.proofs.numbers.put_state.Tie as tie
 
-slice-write-s : tie.Need-slice-write-s
-slice-write-s c = search needs
-
-slice-write-s-2 : tie.Need-slice-write-s-2
-slice-write-s-2 c = search needs
-
-slice-write-s-3 : tie.Need-slice-write-s-3
-slice-write-s-3 c = search needs
-
-slice-write-s-4 : tie.Need-slice-write-s-4
-slice-write-s-4 c = search needs
-
 slice-write-s-5 : tie.Need-slice-write-s-5
 slice-write-s-5 c = simp length-set (omega arith)
 
 slice-write-s-6 : tie.Need-slice-write-s-6
 slice-write-s-6 c = simp length-set (omega arith)
 
-phase-number-requires : tie.Need-phase-number-requires
-phase-number-requires c κs = search needs
-
 slice-write-s-7 : tie.Need-slice-write-s-7
 slice-write-s-7 c = simp length-set (omega arith)
-
-same-length : tie.Need-same-length
-same-length c = search needs
 
 returns : tie.Need-returns
 unfolding numbersOf stateOf
@@ -45,13 +27,13 @@ pub put-state-spec : {M : Type 1} → statement M
 put-state-spec =
     tie.close
     (tie.spec
-    slice-write-s
-    slice-write-s-2
-    slice-write-s-3
-    slice-write-s-4
+    (λ c. search needs)
+    (λ c. search needs)
+    (λ c. search needs)
+    (λ c. search needs)
     slice-write-s-5
     slice-write-s-6
-    phase-number-requires
+    (λ c κs. search needs)
     slice-write-s-7
-    same-length
+    (λ c. search needs)
     returns)

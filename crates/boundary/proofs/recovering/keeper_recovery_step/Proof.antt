@@ -7,38 +7,11 @@ use Rattle.boundary.proofs.Unsound.{step-unsound}
 use Rattle.boundary.proofs.recovering.keeper_recovery_step.Statement.{statement}
 use Rattle.boundary.proofs.recovering.keeper_recovery_step.Tie as tie
 
-state-in-requires : tie.Need-state-in-requires
-state-in-requires c κs = search needs
-
-enum-known-s : tie.Need-enum-known-s
-enum-known-s c = search needs
-
-enum-told : tie.Need-enum-told
-enum-told c = search needs
-
-same-length : tie.Need-same-length
-same-length c = search needs
-
 returns : tie.Need-returns
 returns c = no-state _ _ _ _ _ _ _ refl _ _ (holds-none _ _ (c .before .before .state-in .ensures) (c .enum-told .given .1)) refl (step-unsound _ _ _ _ _)
 
-recovery-step-requires : tie.Need-recovery-step-requires
-recovery-step-requires c κs = search needs
-
 put-state-requires : tie.Need-put-state-requires
 put-state-requires c κs = let h = holds-state _ _ (c .before .before .before .before .before .before .before .before .before .state-in .ensures) _ (c .before .before .before .before .before .before .before .s .given .1) in h .is-seven
-
-step-value-requires : tie.Need-step-value-requires
-step-value-requires c κs = search needs
-
-step-number-requires : tie.Need-step-number-requires
-step-number-requires c κs = search needs
-
-same-length-2 : tie.Need-same-length-2
-same-length-2 c = search needs
-
-same-length-3 : tie.Need-same-length-3
-same-length-3 c = search needs
 
 returns-2 : tie.Need-returns-2
 returns-2 c = let h = holds-state _ _ (c .before .before .before .before .before .before .before .before .before .before .before .before .before .before .state-in .ensures) _ (c .before .before .before .before .before .before .before .before .before .before .before .before .s .given .1) in crossed _ _ _ _ _ _ _ refl _ _ (h .is-state) _ (c .before .before .before .before .before .before .before .before .before .recovery-step .result .state) _ _ _ _ _ _ _ _ _ (h .read) (c .before .before .before .before .before .before .before .before .before .recovery-step .ensures) (c .step-number .ensures) (c .before .step-value .ensures) (c .before .before .before .before .put-state .ensures)
@@ -47,15 +20,15 @@ pub keeper-recovery-step-spec : {M : Type 1} → statement M
 keeper-recovery-step-spec =
     tie.close
     (tie.spec
-    state-in-requires
-    enum-known-s
-    enum-told
-    same-length
+    (λ c κs. search needs)
+    (λ c. search needs)
+    (λ c. search needs)
+    (λ c. search needs)
     returns
-    recovery-step-requires
+    (λ c κs. search needs)
     put-state-requires
-    step-value-requires
-    step-number-requires
-    same-length-2
-    same-length-3
+    (λ c κs. search needs)
+    (λ c κs. search needs)
+    (λ c. search needs)
+    (λ c. search needs)
     returns-2)

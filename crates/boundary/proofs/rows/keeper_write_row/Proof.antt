@@ -7,29 +7,11 @@ use Rattle.boundary.proofs.RowLaws.{written-none, written-as}
 use Rattle.boundary.proofs.rows.keeper_write_row.Statement.{statement}
 use Rattle.boundary.proofs.rows.keeper_write_row.Tie as tie
 
-entry-in-requires : tie.Need-entry-in-requires
-entry-in-requires c κs = search needs
-
-enum-known-what : tie.Need-enum-known-what
-enum-known-what c = search needs
-
-enum-told : tie.Need-enum-told
-enum-told c = search needs
-
 returns : tie.Need-returns
 returns c = written-none _ _ _ (is-nothing _ _ (c .before .before .entry-in .ensures) (c .enum-told .given .1))
 
-write-row-requires : tie.Need-write-row-requires
-write-row-requires c κs = search needs
-
-same-length : tie.Need-same-length
-same-length c = search needs
-
 returns-2 : tie.Need-returns-2
 returns-2 c = written-as _ _ _ _ _ _ _ (is-some _ _ (c .before .before .before .before .before .before .before .before .entry-in .ensures) _ (c .before .before .before .before .before .before .what .given .1)) (c .before .before .before .write-row .ensures .0) (c .before .before .before .write-row .ensures .1) (ap (λ t. pick t 0 1) (sym (c .if1 .taken)))
-
-same-length-2 : tie.Need-same-length-2
-same-length-2 c = search needs
 
 returns-3 : tie.Need-returns-3
 returns-3 c = written-as _ _ _ _ _ _ _ (is-some _ _ (c .before .before .before .before .before .before .before .before .entry-in .ensures) _ (c .before .before .before .before .before .before .what .given .1)) (c .before .before .before .write-row .ensures .0) (c .before .before .before .write-row .ensures .1) (ap (λ t. pick t 0 1) (sym (c .if1 .left)))
@@ -38,12 +20,12 @@ pub keeper-write-row-spec : {M : Type 1} → statement M
 keeper-write-row-spec =
     tie.close
     (tie.spec
-    entry-in-requires
-    enum-known-what
-    enum-told
+    (λ c κs. search needs)
+    (λ c. search needs)
+    (λ c. search needs)
     returns
-    write-row-requires
-    same-length
+    (λ c κs. search needs)
+    (λ c. search needs)
     returns-2
-    same-length-2
+    (λ c. search needs)
     returns-3)

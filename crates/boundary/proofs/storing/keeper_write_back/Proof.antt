@@ -7,41 +7,11 @@ use Rattle.boundary.proofs.Unsound.{back-unsound}
 use Rattle.boundary.proofs.storing.keeper_write_back.Statement.{statement}
 use Rattle.boundary.proofs.storing.keeper_write_back.Tie as tie
 
-state-in-requires : tie.Need-state-in-requires
-state-in-requires c κs = search needs
-
-enum-known-s : tie.Need-enum-known-s
-enum-known-s c = search needs
-
-enum-told : tie.Need-enum-told
-enum-told c = search needs
-
-same-length : tie.Need-same-length
-same-length c = search needs
-
 returns : tie.Need-returns
 returns c = no-state _ _ _ _ _ _ _ refl _ _ (holds-none _ _ (c .before .before .state-in .ensures) (c .enum-told .given .1)) refl (back-unsound _ _ _ _ _ _)
 
-write-back-requires : tie.Need-write-back-requires
-write-back-requires c κs = search needs
-
 put-state-requires : tie.Need-put-state-requires
 put-state-requires c κs = let h = holds-state _ _ (c .before .before .before .before .before .before .before .before .before .before .before .before .state-in .ensures) _ (c .before .before .before .before .before .before .before .before .before .before .s .given .1) in h .is-seven
-
-back-value-requires : tie.Need-back-value-requires
-back-value-requires c κs = search needs
-
-back-number-requires : tie.Need-back-number-requires
-back-number-requires c κs = search needs
-
-same-length-2 : tie.Need-same-length-2
-same-length-2 c = search needs
-
-same-length-3 : tie.Need-same-length-3
-same-length-3 c = search needs
-
-same-length-4 : tie.Need-same-length-4
-same-length-4 c = search needs
 
 returns-2 : tie.Need-returns-2
 returns-2 c = let h = holds-state _ _ (c .before .before .before .before .before .before .before .before .before .before .before .before .before .before .before .before .before .state-in .ensures) _ (c .before .before .before .before .before .before .before .before .before .before .before .before .before .before .before .s .given .1) in crossed _ _ _ _ _ _ _ refl _ _ (h .is-state) _ (c .before .before .before .before .before .before .before .before .before .before .before .write-back .result .state) _ _ _ _ _ _ _ _ _ (h .read) (c .before .before .before .before .before .before .before .before .before .before .before .write-back .ensures) (c .back-number .ensures) (c .before .back-value .ensures) (c .before .before .before .before .put-state .ensures)
@@ -50,16 +20,16 @@ pub keeper-write-back-spec : {M : Type 1} → statement M
 keeper-write-back-spec =
     tie.close
     (tie.spec
-    state-in-requires
-    enum-known-s
-    enum-told
-    same-length
+    (λ c κs. search needs)
+    (λ c. search needs)
+    (λ c. search needs)
+    (λ c. search needs)
     returns
-    write-back-requires
+    (λ c κs. search needs)
     put-state-requires
-    back-value-requires
-    back-number-requires
-    same-length-2
-    same-length-3
-    same-length-4
+    (λ c κs. search needs)
+    (λ c κs. search needs)
+    (λ c. search needs)
+    (λ c. search needs)
+    (λ c. search needs)
     returns-2)

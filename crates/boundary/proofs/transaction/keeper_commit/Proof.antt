@@ -10,55 +10,16 @@ use Rattle.boundary.proofs.Unsound.{commit-unsound}
 use Rattle.boundary.proofs.transaction.keeper_commit.Statement.{statement}
 use Rattle.boundary.proofs.transaction.keeper_commit.Tie as tie
 
-state-in-requires : tie.Need-state-in-requires
-state-in-requires c κs = search needs
-
-enum-known-s : tie.Need-enum-known-s
-enum-known-s c = search needs
-
-enum-told : tie.Need-enum-told
-enum-told c = search needs
-
-same-length : tie.Need-same-length
-same-length c = search needs
-
 returns : tie.Need-returns
 returns c = no-state _ _ _ _ _ _ _ refl _ _ (holds-none _ _ (c .before .before .state-in .ensures) (c .enum-told .given .1)) refl (commit-unsound _ _ _ _ _)
 
-commit-requires : tie.Need-commit-requires
-commit-requires c κs = search needs
-
-enum-known-answer : tie.Need-enum-known-answer
-enum-known-answer c = search needs
-
-same-length-2 : tie.Need-same-length-2
-same-length-2 c = search needs
-
-same-length-3 : tie.Need-same-length-3
-same-length-3 c = search needs
-
 returns-2 : tie.Need-returns-2
 returns-2 c = let h = holds-state _ _ (c .before .before .before .before .before .before .before .before .before .before .state-in .ensures) _ (c .before .before .before .before .before .before .before .before .s .given .1) in refused-crossed _ _ _ _ _ _ _ _ (h .is-state) _ (c .before .before .before .before .before .commit .result .state) (h .read) _ _ _ _ _ _ _ (c .before .answer .given .1) refl commit-keeps (c .before .before .before .before .before .commit .ensures)
-
-enum-told-2 : tie.Need-enum-told-2
-enum-told-2 c = search needs
 
 put-made-requires : tie.Need-put-made-requires
 put-made-requires c κs =
     let h = holds-state _ _ (c .before .before .before .before .before .before .before .before .before .before .before .state-in .ensures) _ (c .before .before .before .before .before .before .before .before .before .s .given .1) in
     begins _ _ _ _ _ _ commit commit-makes _ (c .before .before .before .before .before .before .commit .result .state) h _ _ _ _ _ _ (c .before .before .before .before .before .before .commit .ensures)
-
-value-of-requires : tie.Need-value-of-requires
-value-of-requires c κs = search needs
-
-number-of-requires : tie.Need-number-of-requires
-number-of-requires c κs = search needs
-
-same-length-4 : tie.Need-same-length-4
-same-length-4 c = search needs
-
-same-length-5 : tie.Need-same-length-5
-same-length-5 c = search needs
 
 returns-3 : tie.Need-returns-3
 returns-3 c = let h = holds-state _ _ (c .before .before .before .before .before .before .before .before .before .before .before .before .before .before .before .before .state-in .ensures) _ (c .before .before .before .before .before .before .before .before .before .before .before .before .before .before .s .given .1) in crossed _ _ _ _ _ _ _ refl _ _ (h .is-state) _ (c .before .before .before .before .before .before .before .before .before .before .before .commit .result .state) _ _ _ _ _ _ _ _ _ (h .read) (c .before .before .before .before .before .before .before .before .before .before .before .commit .ensures) (c .number-of .ensures) (c .before .value-of .ensures) (c .before .before .before .before .put-made .ensures)
@@ -67,20 +28,20 @@ pub keeper-commit-spec : {M : Type 1} → statement M
 keeper-commit-spec =
     tie.close
     (tie.spec
-    state-in-requires
-    enum-known-s
-    enum-told
-    same-length
+    (λ c κs. search needs)
+    (λ c. search needs)
+    (λ c. search needs)
+    (λ c. search needs)
     returns
-    commit-requires
-    enum-known-answer
-    same-length-2
-    same-length-3
+    (λ c κs. search needs)
+    (λ c. search needs)
+    (λ c. search needs)
+    (λ c. search needs)
     returns-2
-    enum-told-2
+    (λ c. search needs)
     put-made-requires
-    value-of-requires
-    number-of-requires
-    same-length-4
-    same-length-5
+    (λ c κs. search needs)
+    (λ c κs. search needs)
+    (λ c. search needs)
+    (λ c. search needs)
     returns-3)

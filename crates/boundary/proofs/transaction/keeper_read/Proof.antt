@@ -7,35 +7,11 @@ use Rattle.boundary.proofs.Unsound.{read-unsound}
 use Rattle.boundary.proofs.transaction.keeper_read.Statement.{statement}
 use Rattle.boundary.proofs.transaction.keeper_read.Tie as tie
 
-state-in-requires : tie.Need-state-in-requires
-state-in-requires c κs = search needs
-
-enum-known-s : tie.Need-enum-known-s
-enum-known-s c = search needs
-
-enum-told : tie.Need-enum-told
-enum-told c = search needs
-
-same-length : tie.Need-same-length
-same-length c = search needs
-
 returns : tie.Need-returns
 returns c = no-state _ _ _ _ _ _ _ refl _ _ (holds-none _ _ (c .before .before .state-in .ensures) (c .enum-told .given .1)) refl (read-unsound _ _ _ _ _ _)
 
-read-requires : tie.Need-read-requires
-read-requires c κs = search needs
-
 put-state-requires : tie.Need-put-state-requires
 put-state-requires c κs = let h = holds-state _ _ (c .before .before .before .before .before .before .state-in .ensures) _ (c .before .before .before .before .s .given .1) in h .is-seven
-
-value-of-requires : tie.Need-value-of-requires
-value-of-requires c κs = search needs
-
-number-of-requires : tie.Need-number-of-requires
-number-of-requires c κs = search needs
-
-same-length-2 : tie.Need-same-length-2
-same-length-2 c = search needs
 
 returns-2 : tie.Need-returns-2
 returns-2 c = let h = holds-state _ _ (c .before .before .before .before .before .before .before .before .before .before .before .state-in .ensures) _ (c .before .before .before .before .before .before .before .before .before .s .given .1) in crossed _ _ _ _ _ _ _ refl _ _ (h .is-state) _ (c .before .before .before .before .before .before .before .read .result .state) _ _ _ _ _ _ _ _ _ (h .read) (c .before .before .before .before .before .before .before .read .ensures) (c .number-of .ensures) (c .before .value-of .ensures) (c .before .before .before .before .put-state .ensures)
@@ -44,14 +20,14 @@ pub keeper-read-spec : {M : Type 1} → statement M
 keeper-read-spec =
     tie.close
     (tie.spec
-    state-in-requires
-    enum-known-s
-    enum-told
-    same-length
+    (λ c κs. search needs)
+    (λ c. search needs)
+    (λ c. search needs)
+    (λ c. search needs)
     returns
-    read-requires
+    (λ c κs. search needs)
     put-state-requires
-    value-of-requires
-    number-of-requires
-    same-length-2
+    (λ c κs. search needs)
+    (λ c κs. search needs)
+    (λ c. search needs)
     returns-2)

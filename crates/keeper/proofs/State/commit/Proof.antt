@@ -8,15 +8,6 @@ use Rattle.keeper.proofs.Transactions.{commit-refused, commit-done}
 use Rattle.keeper.proofs.State.commit.Statement.{statement}
 use Rattle.keeper.proofs.State.commit.Tie as tie
 
-commit-requires : tie.Need-commit-requires
-commit-requires c κs = search needs
-
-refused-requires : tie.Need-refused-requires
-refused-requires c κs = search needs
-
-same-length : tie.Need-same-length
-same-length c = search needs
-
 returns : tie.Need-returns
 returns c = commit-refused _ _ _ _ (c .before .before .commit .ensures) (c .refused .ensures) (c .before .if1 .taken)
 
@@ -26,18 +17,6 @@ add-number c = let w = commit-passed (c .before .before .before .before .before 
 append-requires : tie.Need-append-requires
 append-requires c κs = let w = commit-passed (c .before .before .before .before .before .before .before .args .self .numbers) (c .before .before .before .before .before .before .before .args .self .phase) [] [] [] [] (c .before .before .before .before .before .before .before .args .waiting .now) (sym (c .before .before .before .commit .ensures) ∙ c .before .before .if1 .left) in omega (arith, w .0, w .1, w .2)
 
-cast-done : tie.Need-cast-done
-cast-done c = search needs
-
-made-requires : tie.Need-made-requires
-made-requires c κs = search needs
-
-done-requires : tie.Need-done-requires
-done-requires c κs = search needs
-
-same-length-2 : tie.Need-same-length-2
-same-length-2 c = search needs
-
 returns-2 : tie.Need-returns-2
 returns-2 c = commit-done (c .before .before .before .before .before .before .before .before .before .before .before .before .args .self) _ _ _ (c .before .before .before .before .before .before .before .before .commit .ensures) _ _ _ refl (c .before .before .before .before .append .ensures) (c .before .made .ensures) (c .done .ensures) (c .before .before .before .before .before .before .before .if1 .left)
 
@@ -45,14 +24,14 @@ pub commit-spec : {M : Type 1} → statement M
 commit-spec =
     tie.close
     (tie.spec
-    commit-requires
-    refused-requires
-    same-length
+    (λ c κs. search needs)
+    (λ c κs. search needs)
+    (λ c. search needs)
     returns
     add-number
     append-requires
-    cast-done
-    made-requires
-    done-requires
-    same-length-2
+    (λ c. search needs)
+    (λ c κs. search needs)
+    (λ c κs. search needs)
+    (λ c. search needs)
     returns-2)

@@ -8,26 +8,11 @@ use Rattle.keeper.proofs.Stores.{cut-refused, cut-done}
 use Rattle.keeper.proofs.State.cut.Statement.{statement}
 use Rattle.keeper.proofs.State.cut.Tie as tie
 
-cut-requires : tie.Need-cut-requires
-cut-requires c κs = search needs
-
-refused-requires : tie.Need-refused-requires
-refused-requires c κs = search needs
-
-same-length : tie.Need-same-length
-same-length c = search needs
-
 returns : tie.Need-returns
 returns c = cut-refused _ _ _ _ _ _ (c .before .before .cut .ensures) (c .refused .ensures) (c .before .if1 .taken)
 
 store-head-requires : tie.Need-store-head-requires
 store-head-requires c κs = let w = cut-passed (c .before .before .before .before .before .before .before .args .self .numbers) (c .before .before .before .before .before .before .before .args .self .phase) (c .before .before .before .before .before .before .before .args .medium .now) [] (c .before .before .before .before .before .before .before .args .first .now) [] [] (c .before .before .before .before .before .before .before .args .p) (sym (c .before .before .cut .ensures) ∙ c .before .if1 .left) in omega (arith, w)
-
-done-requires : tie.Need-done-requires
-done-requires c κs = search needs
-
-same-length-2 : tie.Need-same-length-2
-same-length-2 c = search needs
 
 returns-2 : tie.Need-returns-2
 returns-2 c = cut-done (c .before .before .before .before .before .before .before .before .before .before .before .args .self) _ _ _ _ _ (c .before .before .before .before .before .before .cut .ensures) _ (c .before .before .before .before .before .if1 .left) (c .before .before .before .store-head .ensures) (c .done .ensures)
@@ -36,11 +21,11 @@ pub cut-spec : {M : Type 1} → statement M
 cut-spec =
     tie.close
     (tie.spec
-    cut-requires
-    refused-requires
-    same-length
+    (λ c κs. search needs)
+    (λ c κs. search needs)
+    (λ c. search needs)
     returns
     store-head-requires
-    done-requires
-    same-length-2
+    (λ c κs. search needs)
+    (λ c. search needs)
     returns-2)

@@ -8,26 +8,11 @@ use Rattle.keeper.proofs.Transactions.{read-refused, read-done}
 use Rattle.keeper.proofs.State.read.Statement.{statement}
 use Rattle.keeper.proofs.State.read.Tie as tie
 
-read-requires : tie.Need-read-requires
-read-requires c κs = search needs
-
-refused-requires : tie.Need-refused-requires
-refused-requires c κs = search needs
-
 returns : tie.Need-returns
 returns c = read-refused _ _ _ _ _ (c .before .before .read .ensures) (c .refused .ensures) (c .before .if1 .taken)
 
-index-requires : tie.Need-index-requires
-index-requires c κs = search needs
-
-mul-done : tie.Need-mul-done
-mul-done c = search needs
-
 shared-slice-read-done : tie.Need-shared-slice-read-done
 shared-slice-read-done c = let w = read-passed (c .before .before .before .before .before .before .args .self .numbers) (c .before .before .before .before .before .before .args .self .phase) [] (c .before .before .before .before .before .before .args .current .now) [] [] [] (c .before .before .before .before .before .before .args .cell) (sym (c .before .before .before .read .ensures) ∙ c .before .before .if1 .left) in omega (arith, w)
-
-done-requires : tie.Need-done-requires
-done-requires c κs = search needs
 
 returns-2 : tie.Need-returns-2
 returns-2 c = read-done (c .before .before .before .before .before .before .before .args .self) _ _ _ _ (c .before .before .before .before .read .ensures) _ _ (c .before .before .index .ensures .0) refl (c .done .ensures) (c .before .before .before .if1 .left)
@@ -36,11 +21,11 @@ pub read-spec : {M : Type 1} → statement M
 read-spec =
     tie.close
     (tie.spec
-    read-requires
-    refused-requires
+    (λ c κs. search needs)
+    (λ c κs. search needs)
     returns
-    index-requires
-    mul-done
+    (λ c κs. search needs)
+    (λ c. search needs)
     shared-slice-read-done
-    done-requires
+    (λ c κs. search needs)
     returns-2)

@@ -4,14 +4,8 @@ use Rattle.keeper.proofs.Recoveries.{step-leaves}
 use Rattle.keeper.proofs.State.recovery_step.Statement.{statement}
 use Rattle.keeper.proofs.State.recovery_step.Tie as tie
 
-recovery-step-requires : tie.Need-recovery-step-requires
-recovery-step-requires c κs = search needs
-
-same-length : tie.Need-same-length
-same-length c = search needs
-
 returns : tie.Need-returns
 returns c = step-leaves _ _ _ _ _ _ _ (c .before .before .before .recovery-step .ensures)
 
 pub recovery-step-spec : {M : Type 1} → statement M
-recovery-step-spec = tie.close (tie.spec recovery-step-requires same-length returns)
+recovery-step-spec = tie.close (tie.spec (λ c κs. search needs) (λ c. search needs) returns)

@@ -8,35 +8,11 @@ use Rattle.keeper.proofs.Transactions.{write-refused, write-done}
 use Rattle.keeper.proofs.State.write.Statement.{statement}
 use Rattle.keeper.proofs.State.write.Tie as tie
 
-write-requires : tie.Need-write-requires
-write-requires c κs = search needs
-
-refused-requires : tie.Need-refused-requires
-refused-requires c κs = search needs
-
-same-length : tie.Need-same-length
-same-length c = search needs
-
-same-length-2 : tie.Need-same-length-2
-same-length-2 c = search needs
-
-same-length-3 : tie.Need-same-length-3
-same-length-3 c = search needs
-
-same-length-4 : tie.Need-same-length-4
-same-length-4 c = search needs
-
 returns : tie.Need-returns
 returns c = write-refused _ _ _ _ _ _ _ _ _ (c .before .before .write .ensures) (c .refused .ensures) (c .before .if1 .taken)
 
 add-n : tie.Need-add-n
 add-n c = let w = write-passed (c .before .before .before .before .before .before .before .before .before .before .before .before .args .self .numbers) (c .before .before .before .before .before .before .before .before .before .before .before .before .args .self .phase) [] (c .before .before .before .before .before .before .before .before .before .before .before .before .args .current .now) (c .before .before .before .before .before .before .before .before .before .before .before .before .args .first .now) (c .before .before .before .before .before .before .before .before .before .before .before .before .args .last .now) (c .before .before .before .before .before .before .before .before .before .before .before .before .args .waiting .now) (c .before .before .before .before .before .before .before .before .before .before .before .before .args .cell) 0 (sym (c .before .before .write .ensures 0) ∙ c .before .if1 .left) in omega (arith, w .0)
-
-index-requires : tie.Need-index-requires
-index-requires c κs = search needs
-
-mul-old : tie.Need-mul-old
-mul-old c = search needs
 
 slice-read-old : tie.Need-slice-read-old
 slice-read-old c = let w = write-passed (c .before .before .before .before .before .before .before .before .before .before .before .before .before .before .args .self .numbers) (c .before .before .before .before .before .before .before .before .before .before .before .before .before .before .args .self .phase) [] (c .before .before .before .before .before .before .before .before .before .before .before .before .before .before .args .current .now) (c .before .before .before .before .before .before .before .before .before .before .before .before .before .before .args .first .now) (c .before .before .before .before .before .before .before .before .before .before .before .before .before .before .args .last .now) (c .before .before .before .before .before .before .before .before .before .before .before .before .before .before .args .waiting .now) (c .before .before .before .before .before .before .before .before .before .before .before .before .before .before .args .cell) 0 (sym (c .before .before .before .before .write .ensures 0) ∙ c .before .before .before .if1 .left) in omega (arith, w .0, w .1)
@@ -47,24 +23,6 @@ append-requires c κs = let w = write-passed (c .before .before .before .before 
 assign-requires : tie.Need-assign-requires
 assign-requires c κs = let w = write-passed (c .before .before .before .before .before .before .before .before .before .before .before .before .before .before .before .before .before .before .before .before .before .args .self .numbers) (c .before .before .before .before .before .before .before .before .before .before .before .before .before .before .before .before .before .before .before .before .before .args .self .phase) [] (c .before .before .before .before .before .before .before .before .before .before .before .before .before .before .before .before .before .before .before .before .before .args .current .now) (c .before .before .before .before .before .before .before .before .before .before .before .before .before .before .before .before .before .before .before .before .before .args .first .now) (c .before .before .before .before .before .before .before .before .before .before .before .before .before .before .before .before .before .before .before .before .before .args .last .now) (c .before .before .before .before .before .before .before .before .before .before .before .before .before .before .before .before .before .before .before .before .before .args .waiting .now) (c .before .before .before .before .before .before .before .before .before .before .before .before .before .before .before .before .before .before .before .before .before .args .cell) 0 (sym (c .before .before .before .before .before .before .before .before .before .before .before .write .ensures 0) ∙ c .before .before .before .before .before .before .before .before .before .before .if1 .left) in omega (arith, w .0, w .1)
 
-made-requires : tie.Need-made-requires
-made-requires c κs = search needs
-
-done-requires : tie.Need-done-requires
-done-requires c κs = search needs
-
-same-length-5 : tie.Need-same-length-5
-same-length-5 c = search needs
-
-same-length-6 : tie.Need-same-length-6
-same-length-6 c = search needs
-
-same-length-7 : tie.Need-same-length-7
-same-length-7 c = search needs
-
-same-length-8 : tie.Need-same-length-8
-same-length-8 c = search needs
-
 returns-2 : tie.Need-returns-2
 returns-2 c = write-done (c .before .before .before .before .before .before .before .before .before .before .before .before .before .before .before .before .before .before .before .before .before .before .before .before .before .before .before .before .before .before .args .self) _ _ _ _ _ _ _ _ (c .before .before .before .before .before .before .before .before .before .before .before .before .before .before .before .before .before .before .before .before .write .ensures) _ _ _ _ _ _ _ _ refl (c .before .before .before .before .before .before .before .before .before .before .before .before .before .before .before .before .before .index .ensures .0) refl (c .before .before .before .before .before .before .before .before .before .before .before .before .before .before .append .ensures) (c .before .before .before .before .before .before .before .before .assign .ensures) (c .before .made .ensures) (c .done .ensures) (c .before .before .before .before .before .before .before .before .before .before .before .before .before .before .before .before .before .before .before .if1 .left)
 
@@ -72,23 +30,23 @@ pub write-spec : {M : Type 1} → statement M
 write-spec =
     tie.close
     (tie.spec
-    write-requires
-    refused-requires
-    same-length
-    same-length-2
-    same-length-3
-    same-length-4
+    (λ c κs. search needs)
+    (λ c κs. search needs)
+    (λ c. search needs)
+    (λ c. search needs)
+    (λ c. search needs)
+    (λ c. search needs)
     returns
     add-n
-    index-requires
-    mul-old
+    (λ c κs. search needs)
+    (λ c. search needs)
     slice-read-old
     append-requires
     assign-requires
-    made-requires
-    done-requires
-    same-length-5
-    same-length-6
-    same-length-7
-    same-length-8
+    (λ c κs. search needs)
+    (λ c κs. search needs)
+    (λ c. search needs)
+    (λ c. search needs)
+    (λ c. search needs)
+    (λ c. search needs)
     returns-2)

@@ -21,49 +21,19 @@ Inv-loop medium slots cells h e current₀ n₀ s₀ at₀ current n s at =
 abbrev μ-loop : tie.MeasureT-loop
 μ-loop medium slots cells h e current₀ n₀ s₀ at₀ current n s at = e - n
 
-first-row-requires : tie.Need-first-row-requires Inv-loop μ-loop
-first-row-requires c κs = search needs
-
 loop-holds : tie.Need-loop-holds Inv-loop μ-loop
 loop-holds c = (omega arith, (omega arith, (refl, c .first-row .ensures)))
-
-replay-entry-requires : tie.Need-replay-entry-requires Inv-loop μ-loop
-replay-entry-requires c κs = search needs
-
-enum-known-open : tie.Need-enum-known-open Inv-loop μ-loop
-enum-known-open c = search needs
-
-enum-told : tie.Need-enum-told Inv-loop μ-loop
-enum-told c = search needs
-
-same-length : tie.Need-same-length Inv-loop μ-loop
-same-length c = search needs
 
 returns : tie.Need-returns Inv-loop μ-loop
 returns c =
     let r = c .before .before .before .before in
     replay-refused _ _ _ _ _ _ (r .before .before .before .loop .inv .1 .1 .0) (search needs) _ (r .replay-entry .ensures .1) (c .enum-told .given .1)
 
-next-row-requires : tie.Need-next-row-requires Inv-loop μ-loop
-next-row-requires c κs = search needs
-
-add-n : tie.Need-add-n Inv-loop μ-loop
-add-n c = search needs
-
-loop-less : tie.Need-loop-less Inv-loop μ-loop
-loop-less c = search needs
-
 loop-again : tie.Need-loop-again Inv-loop μ-loop
 loop-again c =
     let r = c .before .before .before .before .before .before in
     let l = r .before .before .before .loop in
     (search needs, (r .replay-entry .kept .1 .1 .1 .1 .1 .1 .0 ∙ l .inv .1 .0, (replay-again _ _ _ _ _ _ (l .inv .1 .1 .0) (search needs) _ (r .replay-entry .ensures .1) _ (c .before .before .«open» .given .1) _ (r .replay-entry .ensures .0), c .next-row .ensures _ (omega arith) (l .inv .1 .1 .1 .0))))
-
-undo-requires : tie.Need-undo-requires Inv-loop μ-loop
-undo-requires c κs = search needs
-
-same-length-2 : tie.Need-same-length-2 Inv-loop μ-loop
-same-length-2 c = search needs
 
 returns-2 : tie.Need-returns-2 Inv-loop μ-loop
 returns-2 c = replay-done _ _ _ _ _ _ (c .before .before .before .before .before .loop .inv .1 .1 .0) (search needs) _ (c .before .before .undo .ensures)
@@ -74,17 +44,17 @@ replay-spec =
     (tie.spec
     Inv-loop
     μ-loop
-    first-row-requires
+    (λ c κs. search needs)
     loop-holds
-    replay-entry-requires
-    enum-known-open
-    enum-told
-    same-length
+    (λ c κs. search needs)
+    (λ c. search needs)
+    (λ c. search needs)
+    (λ c. search needs)
     returns
-    next-row-requires
-    add-n
-    loop-less
+    (λ c κs. search needs)
+    (λ c. search needs)
+    (λ c. search needs)
     loop-again
-    undo-requires
-    same-length-2
+    (λ c κs. search needs)
+    (λ c. search needs)
     returns-2)

@@ -16,26 +16,11 @@ Inv-loop medium slots cells s n current₀ k₀ current k =
 abbrev μ-loop : tie.MeasureT-loop
 μ-loop medium slots cells s n current₀ k₀ current k = k
 
-loop-holds : tie.Need-loop-holds Inv-loop μ-loop
-loop-holds c = search needs
-
-undo-entry-requires : tie.Need-undo-entry-requires Inv-loop μ-loop
-undo-entry-requires c κs = search needs
-
-sub-k : tie.Need-sub-k Inv-loop μ-loop
-sub-k c = search needs
-
-loop-less : tie.Need-loop-less Inv-loop μ-loop
-loop-less c = search needs
-
 loop-again : tie.Need-loop-again Inv-loop μ-loop
 loop-again c = (
   c .before .before .undo-entry .kept .1 .1 .1 .1 .0 ∙ c .before .before .before .before .before .loop .inv .0,
   undo-again _ _ _ _ _ (c .before .before .before .before .before .loop .inv .1) (search needs) _ (c .before .before .undo-entry .ensures),
 )
-
-same-length : tie.Need-same-length Inv-loop μ-loop
-same-length c = search needs
 
 returns : tie.Need-returns Inv-loop μ-loop
 returns c = undo-done _ _ _ _ _ (c .before .loop .inv .1) (search needs)
@@ -46,10 +31,10 @@ undo-spec =
     (tie.spec
     Inv-loop
     μ-loop
-    loop-holds
-    undo-entry-requires
-    sub-k
-    loop-less
+    (λ c. search needs)
+    (λ c κs. search needs)
+    (λ c. search needs)
+    (λ c. search needs)
     loop-again
-    same-length
+    (λ c. search needs)
     returns)

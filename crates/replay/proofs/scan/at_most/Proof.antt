@@ -5,9 +5,6 @@ use borrow.Author.Needs.{needs}
 use Rattle.replay.proofs.scan.at_most.Statement.{statement}
 use Rattle.replay.proofs.scan.at_most.Tie as tie
 
-sub-left : tie.Need-sub-left
-sub-left c = search needs
-
 returns : tie.Need-returns
 returns c = most-all _ _ (omega arith)
 
@@ -15,4 +12,4 @@ returns-2 : tie.Need-returns-2
 returns-2 c = most-left _ _ (omega arith)
 
 pub at-most-spec : {M : Type 1} → statement M
-at-most-spec = tie.close (tie.spec sub-left returns returns-2)
+at-most-spec = tie.close (tie.spec (λ c. search needs) returns returns-2)

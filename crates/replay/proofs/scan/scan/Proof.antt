@@ -21,44 +21,14 @@ Inv-loop medium slots cells h n₀ left₀ at₀ n left at =
 abbrev μ-loop : tie.MeasureT-loop
 μ-loop medium slots cells h n₀ left₀ at₀ n left at = left
 
-at-most-requires : tie.Need-at-most-requires Inv-loop μ-loop
-at-most-requires c κs = search needs
-
-first-row-requires : tie.Need-first-row-requires Inv-loop μ-loop
-first-row-requires c κs = search needs
-
 loop-holds : tie.Need-loop-holds Inv-loop μ-loop
 loop-holds c = (omega (arith, most-fits (c .before .before .before .args .slots) (c .before .before .before .args .h) (omega arith)), (scan-starts _ _ _ _ _ (c .before .at-most .ensures), c .first-row .ensures))
-
-add-next : tie.Need-add-next Inv-loop μ-loop
-add-next c = search needs
-
-get4-requires : tie.Need-get4-requires Inv-loop μ-loop
-get4-requires c κs = search needs
 
 returns : tie.Need-returns Inv-loop μ-loop
 returns c = scan-stop _ _ _ _ _ _ (c .before .before .before .loop .inv .1 .0) (omega arith) (λ z. omega (arith, number-from _ _ _ _ (c .before .before .before .loop .inv .1 .1 .0) _ (c .before .get4 .ensures)))
 
-entry-from-requires : tie.Need-entry-from-requires Inv-loop μ-loop
-entry-from-requires c κs = search needs
-
-enum-told : tie.Need-enum-told Inv-loop μ-loop
-enum-told c = search needs
-
-enum-told-2 : tie.Need-enum-told-2 Inv-loop μ-loop
-enum-told-2 c = search needs
-
 returns-2 : tie.Need-returns-2 Inv-loop μ-loop
 returns-2 c = scan-bad _ _ _ _ _ _ (c .before .before .before .before .before .before .loop .inv .1 .0) (omega arith) (omega (arith, number-from _ _ _ _ (c .before .before .before .before .before .before .loop .inv .1 .1 .0) _ (c .before .before .before .before .get4 .ensures))) (is-nothing _ _ (read-from _ _ _ _ (c .before .before .before .before .before .before .loop .inv .1 .1 .0) _ _ (c .before .before .entry-from .ensures)) (c .enum-told2 .given .1))
-
-sub-left : tie.Need-sub-left Inv-loop μ-loop
-sub-left c = search needs
-
-next-row-requires : tie.Need-next-row-requires Inv-loop μ-loop
-next-row-requires c κs = search needs
-
-loop-less : tie.Need-loop-less Inv-loop μ-loop
-loop-less c = search needs
 
 loop-again : tie.Need-loop-again Inv-loop μ-loop
 loop-again c = (omega arith, (scan-again _ _ _ _ _ _ (c .before .before .before .before .before .before .before .loop .inv .1 .0) (omega arith) (omega (arith, number-from _ _ _ _ (c .before .before .before .before .before .before .before .loop .inv .1 .1 .0) _ (c .before .before .before .before .before .get4 .ensures))) _ (is-some _ _ (read-from _ _ _ _ (c .before .before .before .before .before .before .before .loop .inv .1 .1 .0) _ _ (c .before .before .before .entry-from .ensures)) _ (c .before .enum-told .given .1)), c .next-row .ensures _ (omega arith) (c .before .before .before .before .before .before .before .loop .inv .1 .1 .0)))
@@ -72,18 +42,18 @@ scan-spec =
     (tie.spec
     Inv-loop
     μ-loop
-    at-most-requires
-    first-row-requires
+    (λ c κs. search needs)
+    (λ c κs. search needs)
     loop-holds
-    add-next
-    get4-requires
+    (λ c. search needs)
+    (λ c κs. search needs)
     returns
-    entry-from-requires
-    enum-told
-    enum-told-2
+    (λ c κs. search needs)
+    (λ c. search needs)
+    (λ c. search needs)
     returns-2
-    sub-left
-    next-row-requires
-    loop-less
+    (λ c. search needs)
+    (λ c κs. search needs)
+    (λ c. search needs)
     loop-again
     returns-3)
