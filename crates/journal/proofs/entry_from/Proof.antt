@@ -5,7 +5,9 @@ use Rattle.journal.proofs.entry_from.Statement.{statement}
 use Rattle.journal.proofs.entry_from.Tie as tie
 
 returns : tie.Need-returns
-returns c = from-part (c .before .before .before .args .rows .now) _ _ (c .before .before .before .args .at) _ (c .read-row .ensures)
+returns c =
+    let a = c .before .before .before .args in
+    from-part (a .rows .now) _ _ (a .at) _ (c .read-row .ensures)
 
 pub entry-from-spec : {M : Type 1} → statement M
 entry-from-spec =

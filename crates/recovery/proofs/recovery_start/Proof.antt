@@ -7,8 +7,10 @@ use Rattle.recovery.proofs.recovery_start.Tie as tie
 
 returns : tie.Need-returns
 returns c =
-    let a = c .before .before .before .before .before .before .before .before .before .before .before .args in
-    start-unfit (a .medium .now) (a .current .now) (a .first .now) (a .last .now) (a .waiting .now) _ (c .before .before .start-fits .ensures) (c .before .if1 .left) _ (c .no-start .ensures)
+    let p2 = c .before .before in
+    let p11 = p2 .before .before .before .before .before .before .before .before .before in
+    let a = p11 .args in
+    start-unfit (a .medium .now) (a .current .now) (a .first .now) (a .last .now) (a .waiting .now) _ (p2 .start-fits .ensures) (c .before .if1 .left) _ (c .no-start .ensures)
 
 get4-requires : tie.Need-get4-requires
 get4-requires c κs =
@@ -18,14 +20,19 @@ get4-requires c κs =
 
 get4-requires-2 : tie.Need-get4-requires-2
 get4-requires-2 c κs =
-    let a = c .before .before .before .before .before .before .before .before .before .before .before .args in
-    let f = start-head (a .medium .now) (a .current .now) (a .first .now) (a .last .now) (a .waiting .now) _ (c .before .before .start-fits .ensures) (c .before .if1 .taken) in
+    let p2 = c .before .before in
+    let p11 = p2 .before .before .before .before .before .before .before .before .before in
+    let a = p11 .args in
+    let f = start-head (a .medium .now) (a .current .now) (a .first .now) (a .last .now) (a .waiting .now) _ (p2 .start-fits .ensures) (c .before .if1 .taken) in
     omega arith
 
 get4-requires-3 : tie.Need-get4-requires-3
 get4-requires-3 c κs =
-    let a = c .before .before .before .before .before .before .before .before .before .before .before .before .args in
-    let f = start-head (a .medium .now) (a .current .now) (a .first .now) (a .last .now) (a .waiting .now) _ (c .before .before .before .start-fits .ensures) (c .before .before .if1 .taken) in
+    let p2 = c .before .before in
+    let p3 = p2 .before in
+    let p12 = p3 .before .before .before .before .before .before .before .before .before in
+    let a = p12 .args in
+    let f = start-head (a .medium .now) (a .current .now) (a .first .now) (a .last .now) (a .waiting .now) _ (p3 .start-fits .ensures) (p2 .if1 .taken) in
     omega arith
 
 scan-requires : tie.Need-scan-requires
@@ -52,12 +59,14 @@ load-requires c κs =
 
 replay-requires : tie.Need-replay-requires
 replay-requires c κs =
-    let g = c .before .before .before .before .before .before .before .before in
+    let p6 = c .before .before .before .before .before .before in
+    let p8 = p6 .before .before in
+    let g = p8 in
     let d = g .before .before .before .before in
     let a = d .before .before .before .before .before .before .before .before .before .before .args in
     let f = start-head (a .medium .now) (a .current .now) (a .first .now) (a .last .now) (a .waiting .now) _ (d .before .start-fits .ensures) (d .if1 .taken) in
     let l = start-lent (a .medium .now) (a .current .now) (a .first .now) (a .last .now) (a .waiting .now) _ (d .before .start-fits .ensures) (d .if1 .taken) in
-    let u = start-upto (a .medium .now) (a .current .now) (a .first .now) (a .last .now) (a .waiting .now) _ (d .before .start-fits .ensures) (d .if1 .taken) (g .before .before .before .get4 .result) (g .before .before .get42 .result) (g .before .get43 .result) (g .before .before .before .get4 .ensures) (g .before .before .get42 .ensures) (g .before .get43 .ensures) _ (g .scan .ensures) _ (c .before .before .before .before .before .before .e .given .1) (omega arith) in
+    let u = start-upto (a .medium .now) (a .current .now) (a .first .now) (a .last .now) (a .waiting .now) _ (d .before .start-fits .ensures) (d .if1 .taken) (g .before .before .before .get4 .result) (g .before .before .get42 .result) (g .before .get43 .result) (g .before .before .before .get4 .ensures) (g .before .before .get42 .ensures) (g .before .get43 .ensures) _ (g .scan .ensures) _ (p6 .e .given .1) (omega arith) in
     (omega arith, (omega arith, u))
 
 returns-3 : tie.Need-returns-3
@@ -70,11 +79,15 @@ returns-3 c =
 
 returns-4 : tie.Need-returns-4
 returns-4 c =
-    let r = c .before .before .before .before .before .before .before .before .before .before .before .before in
+    let p3 = c .before .before .before in
+    let p7 = p3 .before .before .before .before in
+    let p9 = p7 .before .before in
+    let p12 = p9 .before .before .before in
+    let r = p12 in
     let g = r .before .before .before .before .before .before .before .before .before in
     let d = g .before .before .before .before in
     let a = d .before .before .before .before .before .before .before .before .before .before .args in
-    start-done (a .medium .now) (a .current .now) (a .first .now) (a .last .now) (a .waiting .now) _ (d .before .start-fits .ensures) (d .if1 .taken) (g .before .before .before .get4 .result) (g .before .before .get42 .result) (g .before .get43 .result) (g .before .before .before .get4 .ensures) (g .before .before .get42 .ensures) (g .before .get43 .ensures) _ (g .scan .ensures) _ (r .before .before .before .before .before .before .before .e .given .1) _ _ _ (r .before .before .before .before .load .ensures) (r .replay .ensures) _ _ (c .before .before .before .before .before .before .before .clear .ensures) (c .before .before .before .clear2 .ensures) (c .before .before .before .before .before .before .before .before .before .if2 .taken) _ (c .upto .ensures)
+    start-done (a .medium .now) (a .current .now) (a .first .now) (a .last .now) (a .waiting .now) _ (d .before .start-fits .ensures) (d .if1 .taken) (g .before .before .before .get4 .result) (g .before .before .get42 .result) (g .before .get43 .result) (g .before .before .before .get4 .ensures) (g .before .before .get42 .ensures) (g .before .get43 .ensures) _ (g .scan .ensures) _ (r .before .before .before .before .before .before .before .e .given .1) _ _ _ (r .before .before .before .before .load .ensures) (r .replay .ensures) _ _ (p7 .clear .ensures) (p3 .clear2 .ensures) (p9 .if2 .taken) _ (c .upto .ensures)
 
 pub recovery-start-spec : {M : Type 1} → statement M
 recovery-start-spec =

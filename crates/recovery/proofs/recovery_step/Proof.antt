@@ -32,10 +32,14 @@ store-cell-requires c κs =
 
 returns-2 : tie.Need-returns-2
 returns-2 c =
-    let g = c .before .before .before .before .before .before .before .before .before in
+    let p2 = c .before .before in
+    let p5 = p2 .before .before .before in
+    let p7 = p5 .before .before in
+    let p9 = p7 .before .before in
+    let g = p9 in
     let d = g .before .before in
     let a = d .before .before .before .before .before .args in
-    step-cell (a .numbers) (a .phase) (a .medium .now) (a .current .now) _ (d .before .step-refusal .ensures) (omega arith) _ (g .lowest-differing .ensures) _ (c .before .before .before .before .before .before .before .found .given .1) _ _ (c .before .before .before .before .before .index .ensures .0) (c .before .before .store-cell .ensures)
+    step-cell (a .numbers) (a .phase) (a .medium .now) (a .current .now) _ (d .before .step-refusal .ensures) (omega arith) _ (g .lowest-differing .ensures) _ (p7 .found .given .1) _ _ (p5 .index .ensures .0) (p2 .store-cell .ensures)
 
 step-end-requires : tie.Need-step-end-requires
 step-end-requires c κs =

@@ -36,9 +36,12 @@ returns-4 c =
 
 returns-5 : tie.Need-returns-5
 returns-5 c =
-    let d = c .before .before .before .before .before .before .before in
+    let p3 = c .before .before .before in
+    let p5 = p3 .before .before in
+    let p7 = p5 .before .before in
+    let d = p7 in
     let a = d .before .before .before .before .before .before .before .args in
-    fits-rows (a .medium .now) (a .current .now) (a .first .now) (a .last .now) (a .waiting .now) _ (d .before .head-ok .ensures) (d .if1 .taken) (c .before .before .before .before .before .index .result) (omega arith) (omega arith) (omega arith) (omega arith) (c .before .before .before .index2 .result) (omega arith)
+    fits-rows (a .medium .now) (a .current .now) (a .first .now) (a .last .now) (a .waiting .now) _ (d .before .head-ok .ensures) (d .if1 .taken) (p5 .index .result) (omega arith) (omega arith) (omega arith) (omega arith) (p3 .index2 .result) (omega arith)
 
 pub start-fits-spec : {M : Type 1} → statement M
 start-fits-spec =

@@ -7,13 +7,32 @@ use Rattle.recovery.proofs.step_refusal.Statement.{statement}
 use Rattle.recovery.proofs.step_refusal.Tie as tie
 
 returns : tie.Need-returns
-returns c = refusal-is _ _ _ _ _ (c .before .before .sound .ensures) refl _ _ _ _ _ 1 _ (c .before .before .before .before .before .fits-medium .ensures) (c .before .before .before .before .fits-cells .ensures) (c .before .before .before .both .ensures) (c .before .both2 .ensures) refl (unfit-stop _ _ (c .if1 .left))
+returns c =
+    let p2 = c .before .before in
+    let p3 = p2 .before in
+    let p4 = p3 .before in
+    let p5 = p4 .before in
+    refusal-is _ _ _ _ _ (p2 .sound .ensures) refl _ _ _ _ _ 1 _ (p5 .fits-medium .ensures) (p4 .fits-cells .ensures) (p3 .both .ensures) (c .before .both2 .ensures) refl (unfit-stop _ _ (c .if1 .left))
 
 returns-2 : tie.Need-returns-2
-returns-2 c = refusal-is _ _ _ _ _ (c .before .before .before .before .sound .ensures) (c .before .is-recovering .ensures) _ _ _ _ _ 0 0 (c .before .before .before .before .before .before .before .fits-medium .ensures) (c .before .before .before .before .before .before .fits-cells .ensures) (c .before .before .before .before .before .both .ensures) (c .before .before .before .both2 .ensures) (pass _ 10 0 0 (not-true _ (c .if2 .taken)) refl) (fit-pass _ 0 0 (c .before .before .if1 .taken) refl)
+returns-2 c =
+    let p2 = c .before .before in
+    let p3 = p2 .before in
+    let p4 = p3 .before in
+    let p5 = p4 .before in
+    let p6 = p5 .before in
+    let p7 = p6 .before in
+    refusal-is _ _ _ _ _ (p4 .sound .ensures) (c .before .is-recovering .ensures) _ _ _ _ _ 0 0 (p7 .fits-medium .ensures) (p6 .fits-cells .ensures) (p5 .both .ensures) (p3 .both2 .ensures) (pass _ 10 0 0 (not-true _ (c .if2 .taken)) refl) (fit-pass _ 0 0 (p2 .if1 .taken) refl)
 
 returns-3 : tie.Need-returns-3
-returns-3 c = refusal-is _ _ _ _ _ (c .before .before .before .before .sound .ensures) (c .before .is-recovering .ensures) _ _ _ _ _ 10 10 (c .before .before .before .before .before .before .before .fits-medium .ensures) (c .before .before .before .before .before .before .fits-cells .ensures) (c .before .before .before .before .before .both .ensures) (c .before .before .before .both2 .ensures) (stop _ 10 0 (not-not _ (c .if2 .left))) (fit-pass _ 10 10 (c .before .before .if1 .taken) refl)
+returns-3 c =
+    let p2 = c .before .before in
+    let p3 = p2 .before in
+    let p4 = p3 .before in
+    let p5 = p4 .before in
+    let p6 = p5 .before in
+    let p7 = p6 .before in
+    refusal-is _ _ _ _ _ (p4 .sound .ensures) (c .before .is-recovering .ensures) _ _ _ _ _ 10 10 (p7 .fits-medium .ensures) (p6 .fits-cells .ensures) (p5 .both .ensures) (p3 .both2 .ensures) (stop _ 10 0 (not-not _ (c .if2 .left))) (fit-pass _ 10 10 (p2 .if1 .taken) refl)
 
 pub step-refusal-spec : {M : Type 1} → statement M
 step-refusal-spec =

@@ -10,13 +10,32 @@ returns : tie.Need-returns
 returns c = commit-is _ _ _ _ _ (c .before .before .before .sound .ensures) refl _ _ _ 1 _ _ (c .before .before .fits-rows .ensures) (c .before .both .ensures) refl refl refl (unfit-stop _ _ (c .if1 .left))
 
 returns-2 : tie.Need-returns-2
-returns-2 c = commit-is _ _ _ _ _ (c .before .before .before .before .before .sound .ensures) (c .before .is-recovering .ensures) _ _ _ 10 10 _ (c .before .before .before .before .fits-rows .ensures) (c .before .before .before .both .ensures) refl refl (stop _ 10 _ (c .if2 .taken)) (fit-pass _ 10 10 (c .before .before .if1 .taken) refl)
+returns-2 c =
+    let p2 = c .before .before in
+    let p3 = p2 .before in
+    let p4 = p3 .before in
+    let p5 = p4 .before in
+    commit-is _ _ _ _ _ (p5 .sound .ensures) (c .before .is-recovering .ensures) _ _ _ 10 10 _ (p4 .fits-rows .ensures) (p3 .both .ensures) refl refl (stop _ 10 _ (c .if2 .taken)) (fit-pass _ 10 10 (p2 .if1 .taken) refl)
 
 returns-3 : tie.Need-returns-3
-returns-3 c = commit-is _ _ _ _ _ (c .before .before .before .before .before .before .before .sound .ensures) (c .before .before .before .is-recovering .ensures) _ _ _ 3 3 3 (c .before .before .before .before .before .before .fits-rows .ensures) (c .before .before .before .before .before .both .ensures) (c .before .is-idle .ensures) (stop _ 3 _ (c .if3 .taken)) (pass _ 10 3 3 (c .before .before .if2 .left) refl) (fit-pass _ 3 3 (c .before .before .before .before .if1 .taken) refl)
+returns-3 c =
+    let p2 = c .before .before in
+    let p3 = p2 .before in
+    let p4 = p3 .before in
+    let p5 = p4 .before in
+    let p6 = p5 .before in
+    let p7 = p6 .before in
+    commit-is _ _ _ _ _ (p7 .sound .ensures) (p3 .is-recovering .ensures) _ _ _ 3 3 3 (p6 .fits-rows .ensures) (p5 .both .ensures) (c .before .is-idle .ensures) (stop _ 3 _ (c .if3 .taken)) (pass _ 10 3 3 (p2 .if2 .left) refl) (fit-pass _ 3 3 (p4 .if1 .taken) refl)
 
 returns-4 : tie.Need-returns-4
-returns-4 c = commit-is _ _ _ _ _ (c .before .before .before .before .before .before .before .sound .ensures) (c .before .before .before .is-recovering .ensures) _ _ _ 0 0 0 (c .before .before .before .before .before .before .fits-rows .ensures) (c .before .before .before .before .before .both .ensures) (c .before .is-idle .ensures) (pass _ 3 0 0 (c .if3 .left) refl) (pass _ 10 0 0 (c .before .before .if2 .left) refl) (fit-pass _ 0 0 (c .before .before .before .before .if1 .taken) refl)
+returns-4 c =
+    let p2 = c .before .before in
+    let p3 = p2 .before in
+    let p4 = p3 .before in
+    let p5 = p4 .before in
+    let p6 = p5 .before in
+    let p7 = p6 .before in
+    commit-is _ _ _ _ _ (p7 .sound .ensures) (p3 .is-recovering .ensures) _ _ _ 0 0 0 (p6 .fits-rows .ensures) (p5 .both .ensures) (c .before .is-idle .ensures) (pass _ 3 0 0 (c .if3 .left) refl) (pass _ 10 0 0 (p2 .if2 .left) refl) (fit-pass _ 0 0 (p4 .if1 .taken) refl)
 
 pub commit-spec : {M : Type 1} → statement M
 commit-spec =

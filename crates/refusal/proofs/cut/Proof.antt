@@ -24,26 +24,49 @@ returns-3 c =
 
 returns-4 : tie.Need-returns-4
 returns-4 c =
-    let d = c .before .before .before .before .before .before .before .before .before in
-    cut-early _ _ _ _ _ (d .before .before .before .before .sound .ensures) (c .before .before .before .before .before .before .before .is-recovering .ensures) _ _ _ _ _ _ _ _ (d .before .before .fits-medium .ensures) (d .before .fits-cells .ensures) (d .both .ensures) refl (c .before .before .either .ensures) (c .before .either2 .ensures) 9 9 9 (stop _ 9 _ (c .if4 .taken)) (pass _ 10 9 9 (c .before .before .before .before .before .before .if3 .left) refl) (fit-pass _ 9 9 (fit _ _ (d .before .before .before .if1 .taken) (c .before .before .before .before .before .before .before .before .if2 .taken)) refl) (λ z. omega arith)
+    let p2 = c .before .before in
+    let p6 = p2 .before .before .before .before in
+    let p7 = p6 .before in
+    let p8 = p7 .before in
+    let p9 = p8 .before in
+    let d = p9 in
+    cut-early _ _ _ _ _ (d .before .before .before .before .sound .ensures) (p7 .is-recovering .ensures) _ _ _ _ _ _ _ _ (d .before .before .fits-medium .ensures) (d .before .fits-cells .ensures) (d .both .ensures) refl (p2 .either .ensures) (c .before .either2 .ensures) 9 9 9 (stop _ 9 _ (c .if4 .taken)) (pass _ 10 9 9 (p6 .if3 .left) refl) (fit-pass _ 9 9 (fit _ _ (d .before .before .before .if1 .taken) (p8 .if2 .taken)) refl) (λ z. omega arith)
 
 cut-row-requires : tie.Need-cut-row-requires
 cut-row-requires c κs =
-    let d = c .before .before .before .before .before .before .before .before .before in
+    let p8 = c .before .before .before .before .before .before .before .before in
+    let p9 = p8 .before in
+    let d = p9 in
     let a = d .before .before .before .before .before .before .before .args in
     let s = sound-facts (a .numbers) (a .phase) (sym (d .before .before .before .before .sound .ensures) ∙ (d .before .before .before .if1 .taken)) in
-    let l = medium-fits (a .numbers) (a .medium .now) (sym (d .before .before .fits-medium .ensures) ∙ and-left _ _ (sym (d .both .ensures) ∙ (c .before .before .before .before .before .before .before .before .if2 .taken))) in
+    let l = medium-fits (a .numbers) (a .medium .now) (sym (d .before .before .fits-medium .ensures) ∙ and-left _ _ (sym (d .both .ensures) ∙ (p8 .if2 .taken))) in
     rows-fit _ _ _ 32 1 s (omega arith) (omega arith)
 
 returns-5 : tie.Need-returns-5
 returns-5 c =
-    let d = c .before .before .before .before .before .before .before .before .before .before .before in
-    cut-middle _ _ _ _ _ (d .before .before .before .before .sound .ensures) (c .before .before .before .before .before .before .before .before .before .is-recovering .ensures) _ _ _ _ _ _ _ _ (d .before .before .fits-medium .ensures) (d .before .fits-cells .ensures) (d .both .ensures) refl (c .before .before .before .before .either .ensures) (c .before .before .before .either2 .ensures) 0 0 0 (pass _ 9 0 0 (c .before .before .if4 .left) refl) (pass _ 10 0 0 (c .before .before .before .before .before .before .before .before .if3 .left) refl) (fit-pass _ 0 0 (fit _ _ (d .before .before .before .if1 .taken) (c .before .before .before .before .before .before .before .before .before .before .if2 .taken)) refl) _ (c .before .cut-row .ensures) refl (c .if5 .taken)
+    let p2 = c .before .before in
+    let p3 = p2 .before in
+    let p4 = p3 .before in
+    let p8 = p4 .before .before .before .before in
+    let p9 = p8 .before in
+    let p10 = p9 .before in
+    let p11 = p10 .before in
+    let d = p11 in
+    cut-middle _ _ _ _ _ (d .before .before .before .before .sound .ensures) (p9 .is-recovering .ensures) _ _ _ _ _ _ _ _ (d .before .before .fits-medium .ensures) (d .before .fits-cells .ensures) (d .both .ensures) refl (p4 .either .ensures) (p3 .either2 .ensures) 0 0 0 (pass _ 9 0 0 (p2 .if4 .left) refl) (pass _ 10 0 0 (p8 .if3 .left) refl) (fit-pass _ 0 0 (fit _ _ (d .before .before .before .if1 .taken) (p10 .if2 .taken)) refl) _ (c .before .cut-row .ensures) refl (c .if5 .taken)
 
 returns-6 : tie.Need-returns-6
 returns-6 c =
-    let d = c .before .before .before .before .before .before .before .before .before .before .before .before .before in
-    cut-late _ _ _ _ _ (d .before .before .before .before .sound .ensures) (c .before .before .before .before .before .before .before .before .before .before .before .is-recovering .ensures) _ _ _ _ _ _ _ _ (d .before .before .fits-medium .ensures) (d .before .fits-cells .ensures) (d .both .ensures) refl (c .before .before .before .before .before .before .either .ensures) (c .before .before .before .before .before .either2 .ensures) 0 0 0 (pass _ 9 0 0 (c .before .before .before .before .if4 .left) refl) (pass _ 10 0 0 (c .before .before .before .before .before .before .before .before .before .before .if3 .left) refl) (fit-pass _ 0 0 (fit _ _ (d .before .before .before .if1 .taken) (c .before .before .before .before .before .before .before .before .before .before .before .before .if2 .taken)) refl) _ (c .before .before .before .cut-row .ensures) refl _ _ (c .before .before .if5 .left) (c .before .any-first .ensures) (c .refuse .ensures)
+    let p2 = c .before .before in
+    let p3 = p2 .before in
+    let p4 = p3 .before in
+    let p5 = p4 .before in
+    let p6 = p5 .before in
+    let p10 = p6 .before .before .before .before in
+    let p11 = p10 .before in
+    let p12 = p11 .before in
+    let p13 = p12 .before in
+    let d = p13 in
+    cut-late _ _ _ _ _ (d .before .before .before .before .sound .ensures) (p11 .is-recovering .ensures) _ _ _ _ _ _ _ _ (d .before .before .fits-medium .ensures) (d .before .fits-cells .ensures) (d .both .ensures) refl (p6 .either .ensures) (p5 .either2 .ensures) 0 0 0 (pass _ 9 0 0 (p4 .if4 .left) refl) (pass _ 10 0 0 (p10 .if3 .left) refl) (fit-pass _ 0 0 (fit _ _ (d .before .before .before .if1 .taken) (p12 .if2 .taken)) refl) _ (p3 .cut-row .ensures) refl _ _ (p2 .if5 .left) (c .before .any-first .ensures) (c .refuse .ensures)
 
 pub cut-spec : {M : Type 1} → statement M
 cut-spec =

@@ -21,7 +21,10 @@ returns-4 : tie.Need-returns-4
 returns-4 c = moved-end _ _ _ (omega arith) (ap isEntry (is-some _ _ (c .before .before .before .before .entry-at .ensures) _ (c .before .before .what .given .1))) (is-end _ _ (c .before .before .before .before .entry-at .ensures) _ (c .before .before .what .given .1) (c .match2 .keys2))
 
 returns-5 : tie.Need-returns-5
-returns-5 c = moved-update _ _ _ (omega arith) (ap isEntry (is-some _ _ (c .before .before .before .before .before .entry-at .ensures) _ (c .before .before .before .what .given .1))) (ap isUpdate (is-update _ _ (c .before .before .before .before .before .entry-at .ensures) _ (c .before .before .before .what .given .1) _ _ _ (c .enum-told2 .given .1)))
+returns-5 c =
+    let p3 = c .before .before .before in
+    let p5 = p3 .before .before in
+    moved-update _ _ _ (omega arith) (ap isEntry (is-some _ _ (p5 .entry-at .ensures) _ (p3 .what .given .1))) (ap isUpdate (is-update _ _ (p5 .entry-at .ensures) _ (p3 .what .given .1) _ _ _ (c .enum-told2 .given .1)))
 
 pub cut-row-spec : {M : Type 1} → statement M
 cut-row-spec =

@@ -11,22 +11,72 @@ use Rattle.refusal.proofs.force.Statement.{statement}
 use Rattle.refusal.proofs.force.Tie as tie
 
 returns : tie.Need-returns
-returns c = force-early _ _ _ _ _ (c .before .before .sound .ensures) refl _ _ _ _ _ (c .before .before .before .before .before .fits-medium .ensures) (c .before .before .before .before .fits-rows .ensures) (c .before .before .before .both .ensures) (c .before .both2 .ensures) 1 (unfit-stop _ _ (c .if1 .left)) (λ z. omega arith)
+returns c =
+    let p2 = c .before .before in
+    let p3 = p2 .before in
+    let p4 = p3 .before in
+    let p5 = p4 .before in
+    force-early _ _ _ _ _ (p2 .sound .ensures) refl _ _ _ _ _ (p5 .fits-medium .ensures) (p4 .fits-rows .ensures) (p3 .both .ensures) (c .before .both2 .ensures) 1 (unfit-stop _ _ (c .if1 .left)) (λ z. omega arith)
 
 returns-2 : tie.Need-returns-2
-returns-2 c = force-early _ _ _ _ _ (c .before .before .before .before .sound .ensures) refl _ _ _ _ _ (c .before .before .before .before .before .before .before .fits-medium .ensures) (c .before .before .before .before .before .before .fits-rows .ensures) (c .before .before .before .before .before .both .ensures) (c .before .before .before .both2 .ensures) 10 (fit-pass _ 10 _ (c .before .before .if1 .taken) (stop _ 10 0 (sym (c .before .is-recovering .ensures) ∙ (c .if2 .taken)))) (λ z. omega arith)
+returns-2 c =
+    let p2 = c .before .before in
+    let p3 = p2 .before in
+    let p4 = p3 .before in
+    let p5 = p4 .before in
+    let p6 = p5 .before in
+    let p7 = p6 .before in
+    force-early _ _ _ _ _ (p4 .sound .ensures) refl _ _ _ _ _ (p7 .fits-medium .ensures) (p6 .fits-rows .ensures) (p5 .both .ensures) (p3 .both2 .ensures) 10 (fit-pass _ 10 _ (p2 .if1 .taken) (stop _ 10 0 (sym (c .before .is-recovering .ensures) ∙ (c .if2 .taken)))) (λ z. omega arith)
 
 returns-3 : tie.Need-returns-3
-returns-3 c = force-none _ _ _ _ _ (c .before .before .before .before .before .before .sound .ensures) refl _ _ _ _ _ (c .before .before .before .before .before .before .before .before .before .fits-medium .ensures) (c .before .before .before .before .before .before .before .before .fits-rows .ensures) (c .before .before .before .before .before .before .before .both .ensures) (c .before .before .before .before .before .both2 .ensures) 0 (fit-pass _ 0 _ (c .before .before .before .before .if1 .taken) (pass _ 10 0 0 (sym (c .before .before .before .is-recovering .ensures) ∙ (c .before .before .if2 .left)) refl)) refl (omega arith)
+returns-3 c =
+    let p2 = c .before .before in
+    let p3 = p2 .before in
+    let p4 = p3 .before in
+    let p5 = p4 .before in
+    let p6 = p5 .before in
+    let p7 = p6 .before in
+    let p8 = p7 .before in
+    let p9 = p8 .before in
+    force-none _ _ _ _ _ (p6 .sound .ensures) refl _ _ _ _ _ (p9 .fits-medium .ensures) (p8 .fits-rows .ensures) (p7 .both .ensures) (p5 .both2 .ensures) 0 (fit-pass _ 0 _ (p4 .if1 .taken) (pass _ 10 0 0 (sym (p3 .is-recovering .ensures) ∙ (p2 .if2 .left)) refl)) refl (omega arith)
 
 entry-at-requires : tie.Need-entry-at-requires
-entry-at-requires c κs = let s = is-sound (c .before .before .before .before .before .before .before .before .before .before .before .before .before .args .numbers) (c .before .before .before .before .before .before .before .before .before .before .before .before .before .args .phase) _ _ _ (c .before .before .before .before .before .before .before .sound .ensures) (c .before .before .before .before .before .before .both2 .ensures) (c .before .before .before .before .before .if1 .taken) in let d = pair-fits (c .before .before .before .before .before .before .before .before .before .before .before .before .before .args .numbers) (c .before .before .before .before .before .before .before .before .before .before .before .before .before .args .medium .now) (c .before .before .before .before .before .before .before .before .before .before .before .before .before .args .waiting .now) _ _ _ (c .before .before .before .before .before .before .before .before .before .before .fits-medium .ensures) (c .before .before .before .before .before .before .before .before .before .fits-rows .ensures) (c .before .before .before .before .before .before .before .before .both .ensures) (is-lent _ _ _ _ _ (c .before .before .before .before .before .before .before .sound .ensures) (c .before .before .before .before .before .before .both2 .ensures) (c .before .before .before .before .before .if1 .taken)) in rows-fit _ _ _ 0 _ s (omega arith) (omega arith)
+entry-at-requires c κs =
+    let p5 = c .before .before .before .before .before in
+    let p6 = p5 .before in
+    let p7 = p6 .before in
+    let p8 = p7 .before in
+    let p9 = p8 .before in
+    let p10 = p9 .before in
+    let p13 = p10 .before .before .before in
+    let a = p13 .args in
+    let s = is-sound (a .numbers) (a .phase) _ _ _ (p7 .sound .ensures) (p6 .both2 .ensures) (p5 .if1 .taken) in let d = pair-fits (a .numbers) (a .medium .now) (a .waiting .now) _ _ _ (p10 .fits-medium .ensures) (p9 .fits-rows .ensures) (p8 .both .ensures) (is-lent _ _ _ _ _ (p7 .sound .ensures) (p6 .both2 .ensures) (p5 .if1 .taken)) in rows-fit _ _ _ 0 _ s (omega arith) (omega arith)
 
 returns-4 : tie.Need-returns-4
-returns-4 c = force-other _ _ _ _ _ (c .before .before .before .before .before .before .before .before .before .before .sound .ensures) refl _ _ _ _ _ (c .before .before .before .before .before .before .before .before .before .before .before .before .before .fits-medium .ensures) (c .before .before .before .before .before .before .before .before .before .before .before .before .fits-rows .ensures) (c .before .before .before .before .before .before .before .before .before .before .before .both .ensures) (c .before .before .before .before .before .before .before .before .before .both2 .ensures) 0 (fit-pass _ 0 _ (c .before .before .before .before .before .before .before .before .if1 .taken) (pass _ 10 0 0 (sym (c .before .before .before .before .before .before .before .is-recovering .ensures) ∙ (c .before .before .before .before .before .before .if2 .left)) refl)) refl (omega arith) (ap isEntry (is-nothing _ _ (c .before .before .entry-at .ensures) (c .enum-told2 .given .1)))
+returns-4 c =
+    let p2 = c .before .before in
+    let p6 = p2 .before .before .before .before in
+    let p7 = p6 .before in
+    let p8 = p7 .before in
+    let p9 = p8 .before in
+    let p10 = p9 .before in
+    let p11 = p10 .before in
+    let p12 = p11 .before in
+    let p13 = p12 .before in
+    force-other _ _ _ _ _ (p10 .sound .ensures) refl _ _ _ _ _ (p13 .fits-medium .ensures) (p12 .fits-rows .ensures) (p11 .both .ensures) (p9 .both2 .ensures) 0 (fit-pass _ 0 _ (p8 .if1 .taken) (pass _ 10 0 0 (sym (p7 .is-recovering .ensures) ∙ (p6 .if2 .left)) refl)) refl (omega arith) (ap isEntry (is-nothing _ _ (p2 .entry-at .ensures) (c .enum-told2 .given .1)))
 
 returns-5 : tie.Need-returns-5
-returns-5 c = force-entry _ _ _ _ _ (c .before .before .before .before .before .before .before .before .before .before .sound .ensures) refl _ _ _ _ _ (c .before .before .before .before .before .before .before .before .before .before .before .before .before .fits-medium .ensures) (c .before .before .before .before .before .before .before .before .before .before .before .before .fits-rows .ensures) (c .before .before .before .before .before .before .before .before .before .before .before .both .ensures) (c .before .before .before .before .before .before .before .before .before .both2 .ensures) 0 (fit-pass _ 0 _ (c .before .before .before .before .before .before .before .before .if1 .taken) (pass _ 10 0 0 (sym (c .before .before .before .before .before .before .before .is-recovering .ensures) ∙ (c .before .before .before .before .before .before .if2 .left)) refl)) refl (omega arith) (ap isEntry (is-some _ _ (c .before .before .entry-at .ensures) _ (c .enum-told .given .1)))
+returns-5 c =
+    let p2 = c .before .before in
+    let p6 = p2 .before .before .before .before in
+    let p7 = p6 .before in
+    let p8 = p7 .before in
+    let p9 = p8 .before in
+    let p10 = p9 .before in
+    let p11 = p10 .before in
+    let p12 = p11 .before in
+    let p13 = p12 .before in
+    force-entry _ _ _ _ _ (p10 .sound .ensures) refl _ _ _ _ _ (p13 .fits-medium .ensures) (p12 .fits-rows .ensures) (p11 .both .ensures) (p9 .both2 .ensures) 0 (fit-pass _ 0 _ (p8 .if1 .taken) (pass _ 10 0 0 (sym (p7 .is-recovering .ensures) ∙ (p6 .if2 .left)) refl)) refl (omega arith) (ap isEntry (is-some _ _ (p2 .entry-at .ensures) _ (c .enum-told .given .1)))
 
 pub force-spec : {M : Type 1} → statement M
 force-spec =

@@ -22,9 +22,11 @@ assign-requires c κs =
 
 returns-3 : tie.Need-returns-3
 returns-3 c =
-    let d = c .before .before .before .before .before .before .before .before .before .before .before in
+    let p6 = c .before .before .before .before .before .before in
+    let p11 = p6 .before .before .before .before .before in
+    let d = p11 in
     restore-update _ _ _ _ _ _ _ (is-update _ _ (d .before .before .before .before .before .entry-at .ensures) _ (d .before .before .before .what .given .1) _ _ _ (d .what2 .given .1))
-    (c .before .before .before .before .before .before .assign .ensures)
+    (p6 .assign .ensures)
 
 pub restore-spec : {M : Type 1} → statement M
 restore-spec =

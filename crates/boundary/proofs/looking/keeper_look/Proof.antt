@@ -17,10 +17,20 @@ row-at-requires : tie.Need-row-at-requires
 row-at-requires c κs = let h = holds-state _ _ (c .before .before .before .before .before .before .state-in .ensures) _ (c .before .before .before .before .s .given .1) in let l = look-facts _ _ _ _ _ refl (h .is-state) _ (h .read) _ (c .before .before .look-number .ensures) (omega arith) in (l .some-slots, l .numbered)
 
 returns-3 : tie.Need-returns-3
-returns-3 c = let h = holds-state _ _ (c .before .before .before .before .before .before .before .before .before .state-in .ensures) _ (c .before .before .before .before .before .before .before .s .given .1) in looked-medium _ _ _ _ _ refl (h .is-state) _ (h .read) _ (c .before .before .before .before .before .look-number .ensures) (omega arith) _ (c .before .before .row-at .ensures .0) (omega arith)
+returns-3 c =
+    let p2 = c .before .before in
+    let p5 = p2 .before .before .before in
+    let p7 = p5 .before .before in
+    let p9 = p7 .before .before in
+    let h = holds-state _ _ (p9 .state-in .ensures) _ (p7 .s .given .1) in looked-medium _ _ _ _ _ refl (h .is-state) _ (h .read) _ (p5 .look-number .ensures) (omega arith) _ (p2 .row-at .ensures .0) (omega arith)
 
 returns-4 : tie.Need-returns-4
-returns-4 c = let h = holds-state _ _ (c .before .before .before .before .before .before .before .before .before .state-in .ensures) _ (c .before .before .before .before .before .before .before .s .given .1) in looked-waiting _ _ _ _ _ refl (h .is-state) _ (h .read) _ (c .before .before .before .before .before .look-number .ensures) (omega arith) _ (c .before .before .row-at .ensures .0) (omega arith)
+returns-4 c =
+    let p2 = c .before .before in
+    let p5 = p2 .before .before .before in
+    let p7 = p5 .before .before in
+    let p9 = p7 .before .before in
+    let h = holds-state _ _ (p9 .state-in .ensures) _ (p7 .s .given .1) in looked-waiting _ _ _ _ _ refl (h .is-state) _ (h .read) _ (p5 .look-number .ensures) (omega arith) _ (p2 .row-at .ensures .0) (omega arith)
 
 pub keeper-look-spec : {M : Type 1} → statement M
 keeper-look-spec =

@@ -21,7 +21,9 @@ slice-write-s-7 c = simp length-set (omega arith)
 
 returns : tie.Need-returns
 unfolding numbersOf stateOf
-returns c = let s = c .before .before .before .args .state .numbers in stored-seven (c .before .before .before .args .s .now) (omega arith) _ _ _ _ _ _ _ ∙ ap (λ x. s .cells ∷ s .slots ∷ s .h ∷ s .f ∷ s .l ∷ s .o ∷ x ∷ []) (c .phase-number .ensures)
+returns c =
+    let a = c .before .before .before .args in
+    let s = a .state .numbers in stored-seven (a .s .now) (omega arith) _ _ _ _ _ _ _ ∙ ap (λ x. s .cells ∷ s .slots ∷ s .h ∷ s .f ∷ s .l ∷ s .o ∷ x ∷ []) (c .phase-number .ensures)
 
 pub put-state-spec : {M : Type 1} → statement M
 put-state-spec =

@@ -11,10 +11,18 @@ returns : tie.Need-returns
 returns c = no-state _ _ _ _ _ _ _ refl _ _ (holds-none _ _ (c .before .before .state-in .ensures) (c .enum-told .given .1)) refl (step-unsound _ _ _ _ _)
 
 put-state-requires : tie.Need-put-state-requires
-put-state-requires c κs = let h = holds-state _ _ (c .before .before .before .before .before .before .before .before .before .state-in .ensures) _ (c .before .before .before .before .before .before .before .s .given .1) in h .is-seven
+put-state-requires c κs =
+    let p7 = c .before .before .before .before .before .before .before in
+    let p9 = p7 .before .before in
+    let h = holds-state _ _ (p9 .state-in .ensures) _ (p7 .s .given .1) in h .is-seven
 
 returns-2 : tie.Need-returns-2
-returns-2 c = let h = holds-state _ _ (c .before .before .before .before .before .before .before .before .before .before .before .before .before .before .state-in .ensures) _ (c .before .before .before .before .before .before .before .before .before .before .before .before .s .given .1) in crossed _ _ _ _ _ _ _ refl _ _ (h .is-state) _ (c .before .before .before .before .before .before .before .before .before .recovery-step .result .state) _ _ _ _ _ _ _ _ _ (h .read) (c .before .before .before .before .before .before .before .before .before .recovery-step .ensures) (c .step-number .ensures) (c .before .step-value .ensures) (c .before .before .before .before .put-state .ensures)
+returns-2 c =
+    let p4 = c .before .before .before .before in
+    let p9 = p4 .before .before .before .before .before in
+    let p12 = p9 .before .before .before in
+    let p14 = p12 .before .before in
+    let h = holds-state _ _ (p14 .state-in .ensures) _ (p12 .s .given .1) in crossed _ _ _ _ _ _ _ refl _ _ (h .is-state) _ (p9 .recovery-step .result .state) _ _ _ _ _ _ _ _ _ (h .read) (p9 .recovery-step .ensures) (c .step-number .ensures) (c .before .step-value .ensures) (p4 .put-state .ensures)
 
 pub keeper-recovery-step-spec : {M : Type 1} → statement M
 keeper-recovery-step-spec =

@@ -14,13 +14,28 @@ returns-2 : tie.Need-returns-2
 returns-2 c = read-as _ _ (omega arith) _ (is-nothing _ _ (c .before .before .before .before .before .before .read-row .ensures) (c .before .before .before .before .enum-told .given .1)) _ _ refl (c .before .before .put-fields .ensures)
 
 returns-3 : tie.Need-returns-3
-returns-3 c = read-as _ _ (omega arith) _ (is-update _ _ (c .before .before .before .before .before .before .before .before .before .before .read-row .ensures) _ (c .before .before .before .before .before .before .before .before .what .given .1) _ _ _ (c .before .before .before .before .before .what2 .given .1)) _ _ refl (c .before .before .put-fields2 .ensures)
+returns-3 c =
+    let p2 = c .before .before in
+    let p5 = p2 .before .before .before in
+    let p8 = p5 .before .before .before in
+    let p10 = p8 .before .before in
+    read-as _ _ (omega arith) _ (is-update _ _ (p10 .read-row .ensures) _ (p8 .what .given .1) _ _ _ (p5 .what2 .given .1)) _ _ refl (p2 .put-fields2 .ensures)
 
 returns-4 : tie.Need-returns-4
-returns-4 c = read-as _ _ (omega arith) _ (is-commit _ _ (c .before .before .before .before .before .before .before .before .before .read-row .ensures) _ (c .before .before .before .before .before .before .before .what .given .1) (c .before .before .before .before .enum-told2 .given .1)) _ _ refl (c .before .before .put-fields3 .ensures)
+returns-4 c =
+    let p2 = c .before .before in
+    let p4 = p2 .before .before in
+    let p7 = p4 .before .before .before in
+    let p9 = p7 .before .before in
+    read-as _ _ (omega arith) _ (is-commit _ _ (p9 .read-row .ensures) _ (p7 .what .given .1) (p4 .enum-told2 .given .1)) _ _ refl (p2 .put-fields3 .ensures)
 
 returns-5 : tie.Need-returns-5
-returns-5 c = read-as _ _ (omega arith) _ (is-abort _ _ (c .before .before .before .before .before .before .before .before .before .read-row .ensures) _ (c .before .before .before .before .before .before .before .what .given .1) (c .before .before .before .before .enum-told3 .given .1)) _ _ refl (c .before .before .put-fields4 .ensures)
+returns-5 c =
+    let p2 = c .before .before in
+    let p4 = p2 .before .before in
+    let p7 = p4 .before .before .before in
+    let p9 = p7 .before .before in
+    read-as _ _ (omega arith) _ (is-abort _ _ (p9 .read-row .ensures) _ (p7 .what .given .1) (p4 .enum-told3 .given .1)) _ _ refl (p2 .put-fields4 .ensures)
 
 pub keeper-read-row-spec : {M : Type 1} → statement M
 keeper-read-row-spec =

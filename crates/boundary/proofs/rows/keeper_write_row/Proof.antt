@@ -11,10 +11,18 @@ returns : tie.Need-returns
 returns c = written-none _ _ _ (is-nothing _ _ (c .before .before .entry-in .ensures) (c .enum-told .given .1))
 
 returns-2 : tie.Need-returns-2
-returns-2 c = written-as _ _ _ _ _ _ _ (is-some _ _ (c .before .before .before .before .before .before .before .before .entry-in .ensures) _ (c .before .before .before .before .before .before .what .given .1)) (c .before .before .before .write-row .ensures .0) (c .before .before .before .write-row .ensures .1) (ap (λ t. pick t 0 1) (sym (c .if1 .taken)))
+returns-2 c =
+    let p3 = c .before .before .before in
+    let p6 = p3 .before .before .before in
+    let p8 = p6 .before .before in
+    written-as _ _ _ _ _ _ _ (is-some _ _ (p8 .entry-in .ensures) _ (p6 .what .given .1)) (p3 .write-row .ensures .0) (p3 .write-row .ensures .1) (ap (λ t. pick t 0 1) (sym (c .if1 .taken)))
 
 returns-3 : tie.Need-returns-3
-returns-3 c = written-as _ _ _ _ _ _ _ (is-some _ _ (c .before .before .before .before .before .before .before .before .entry-in .ensures) _ (c .before .before .before .before .before .before .what .given .1)) (c .before .before .before .write-row .ensures .0) (c .before .before .before .write-row .ensures .1) (ap (λ t. pick t 0 1) (sym (c .if1 .left)))
+returns-3 c =
+    let p3 = c .before .before .before in
+    let p6 = p3 .before .before .before in
+    let p8 = p6 .before .before in
+    written-as _ _ _ _ _ _ _ (is-some _ _ (p8 .entry-in .ensures) _ (p6 .what .given .1)) (p3 .write-row .ensures .0) (p3 .write-row .ensures .1) (ap (λ t. pick t 0 1) (sym (c .if1 .left)))
 
 pub keeper-write-row-spec : {M : Type 1} → statement M
 keeper-write-row-spec =

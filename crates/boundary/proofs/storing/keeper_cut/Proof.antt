@@ -11,10 +11,18 @@ returns : tie.Need-returns
 returns c = no-state _ _ _ _ _ _ _ refl _ _ (holds-none _ _ (c .before .before .state-in .ensures) (c .enum-told .given .1)) refl (cut-unsound _ _ _ _ _ _)
 
 put-state-requires : tie.Need-put-state-requires
-put-state-requires c κs = let h = holds-state _ _ (c .before .before .before .before .before .before .before .before .before .state-in .ensures) _ (c .before .before .before .before .before .before .before .s .given .1) in h .is-seven
+put-state-requires c κs =
+    let p7 = c .before .before .before .before .before .before .before in
+    let p9 = p7 .before .before in
+    let h = holds-state _ _ (p9 .state-in .ensures) _ (p7 .s .given .1) in h .is-seven
 
 returns-2 : tie.Need-returns-2
-returns-2 c = let h = holds-state _ _ (c .before .before .before .before .before .before .before .before .before .before .before .before .before .state-in .ensures) _ (c .before .before .before .before .before .before .before .before .before .before .before .s .given .1) in crossed _ _ _ _ _ _ _ refl _ _ (h .is-state) _ (c .before .before .before .before .before .before .before .before .cut .result .state) _ _ _ _ _ _ _ _ _ (h .read) (c .before .before .before .before .before .before .before .before .cut .ensures) (c .number-of .ensures) refl (c .before .before .before .put-state .ensures)
+returns-2 c =
+    let p3 = c .before .before .before in
+    let p8 = p3 .before .before .before .before .before in
+    let p11 = p8 .before .before .before in
+    let p13 = p11 .before .before in
+    let h = holds-state _ _ (p13 .state-in .ensures) _ (p11 .s .given .1) in crossed _ _ _ _ _ _ _ refl _ _ (h .is-state) _ (p8 .cut .result .state) _ _ _ _ _ _ _ _ _ (h .read) (p8 .cut .ensures) (c .number-of .ensures) refl (p3 .put-state .ensures)
 
 pub keeper-cut-spec : {M : Type 1} → statement M
 keeper-cut-spec =

@@ -11,10 +11,18 @@ returns : tie.Need-returns
 returns c = no-state _ _ _ _ _ _ _ refl _ _ (holds-none _ _ (c .before .before .state-in .ensures) (c .enum-told .given .1)) refl (back-unsound _ _ _ _ _ _)
 
 put-state-requires : tie.Need-put-state-requires
-put-state-requires c κs = let h = holds-state _ _ (c .before .before .before .before .before .before .before .before .before .before .before .before .state-in .ensures) _ (c .before .before .before .before .before .before .before .before .before .before .s .given .1) in h .is-seven
+put-state-requires c κs =
+    let p10 = c .before .before .before .before .before .before .before .before .before .before in
+    let p12 = p10 .before .before in
+    let h = holds-state _ _ (p12 .state-in .ensures) _ (p10 .s .given .1) in h .is-seven
 
 returns-2 : tie.Need-returns-2
-returns-2 c = let h = holds-state _ _ (c .before .before .before .before .before .before .before .before .before .before .before .before .before .before .before .before .before .state-in .ensures) _ (c .before .before .before .before .before .before .before .before .before .before .before .before .before .before .before .s .given .1) in crossed _ _ _ _ _ _ _ refl _ _ (h .is-state) _ (c .before .before .before .before .before .before .before .before .before .before .before .write-back .result .state) _ _ _ _ _ _ _ _ _ (h .read) (c .before .before .before .before .before .before .before .before .before .before .before .write-back .ensures) (c .back-number .ensures) (c .before .back-value .ensures) (c .before .before .before .before .put-state .ensures)
+returns-2 c =
+    let p4 = c .before .before .before .before in
+    let p11 = p4 .before .before .before .before .before .before .before in
+    let p15 = p11 .before .before .before .before in
+    let p17 = p15 .before .before in
+    let h = holds-state _ _ (p17 .state-in .ensures) _ (p15 .s .given .1) in crossed _ _ _ _ _ _ _ refl _ _ (h .is-state) _ (p11 .write-back .result .state) _ _ _ _ _ _ _ _ _ (h .read) (p11 .write-back .ensures) (c .back-number .ensures) (c .before .back-value .ensures) (p4 .put-state .ensures)
 
 pub keeper-write-back-spec : {M : Type 1} → statement M
 keeper-write-back-spec =

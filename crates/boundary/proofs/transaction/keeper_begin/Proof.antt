@@ -11,10 +11,18 @@ returns : tie.Need-returns
 returns c = no-state _ _ _ _ _ _ _ refl _ _ (holds-none _ _ (c .before .before .state-in .ensures) (c .enum-told .given .1)) refl (begin-unsound _ _ _ _ _)
 
 put-state-requires : tie.Need-put-state-requires
-put-state-requires c κs = let h = holds-state _ _ (c .before .before .before .before .before .before .before .before .before .before .before .before .before .before .before .before .before .before .state-in .ensures) _ (c .before .before .before .before .before .before .before .before .before .before .before .before .before .before .before .before .s .given .1) in h .is-seven
+put-state-requires c κs =
+    let p16 = c .before .before .before .before .before .before .before .before .before .before .before .before .before .before .before .before in
+    let p18 = p16 .before .before in
+    let h = holds-state _ _ (p18 .state-in .ensures) _ (p16 .s .given .1) in h .is-seven
 
 returns-2 : tie.Need-returns-2
-returns-2 c = let h = holds-state _ _ (c .before .before .before .before .before .before .before .before .before .before .before .before .before .before .before .before .before .before .before .before .before .before .state-in .ensures) _ (c .before .before .before .before .before .before .before .before .before .before .before .before .before .before .before .before .before .before .before .before .s .given .1) in crossed _ _ _ _ _ _ _ refl _ _ (h .is-state) _ (c .before .before .before .before .before .before .before .before .before .before .before .before .before .before .begin .result .state) _ _ _ _ _ _ _ _ _ (h .read) (c .before .before .before .before .before .before .before .before .before .before .before .before .before .before .begin .ensures) (c .number-of .ensures) refl (c .before .before .before .put-state .ensures)
+returns-2 c =
+    let p3 = c .before .before .before in
+    let p14 = p3 .before .before .before .before .before .before .before .before .before .before .before in
+    let p20 = p14 .before .before .before .before .before .before in
+    let p22 = p20 .before .before in
+    let h = holds-state _ _ (p22 .state-in .ensures) _ (p20 .s .given .1) in crossed _ _ _ _ _ _ _ refl _ _ (h .is-state) _ (p14 .begin .result .state) _ _ _ _ _ _ _ _ _ (h .read) (p14 .begin .ensures) (c .number-of .ensures) refl (p3 .put-state .ensures)
 
 pub keeper-begin-spec : {M : Type 1} → statement M
 keeper-begin-spec =

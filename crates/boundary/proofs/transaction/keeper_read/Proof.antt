@@ -14,7 +14,12 @@ put-state-requires : tie.Need-put-state-requires
 put-state-requires c κs = let h = holds-state _ _ (c .before .before .before .before .before .before .state-in .ensures) _ (c .before .before .before .before .s .given .1) in h .is-seven
 
 returns-2 : tie.Need-returns-2
-returns-2 c = let h = holds-state _ _ (c .before .before .before .before .before .before .before .before .before .before .before .state-in .ensures) _ (c .before .before .before .before .before .before .before .before .before .s .given .1) in crossed _ _ _ _ _ _ _ refl _ _ (h .is-state) _ (c .before .before .before .before .before .before .before .read .result .state) _ _ _ _ _ _ _ _ _ (h .read) (c .before .before .before .before .before .before .before .read .ensures) (c .number-of .ensures) (c .before .value-of .ensures) (c .before .before .before .before .put-state .ensures)
+returns-2 c =
+    let p4 = c .before .before .before .before in
+    let p7 = p4 .before .before .before in
+    let p9 = p7 .before .before in
+    let p11 = p9 .before .before in
+    let h = holds-state _ _ (p11 .state-in .ensures) _ (p9 .s .given .1) in crossed _ _ _ _ _ _ _ refl _ _ (h .is-state) _ (p7 .read .result .state) _ _ _ _ _ _ _ _ _ (h .read) (p7 .read .ensures) (c .number-of .ensures) (c .before .value-of .ensures) (p4 .put-state .ensures)
 
 pub keeper-read-spec : {M : Type 1} → statement M
 keeper-read-spec =

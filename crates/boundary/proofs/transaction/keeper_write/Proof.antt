@@ -14,11 +14,19 @@ returns c = no-state _ _ _ _ _ _ _ refl _ _ (holds-none _ _ (c .before .before .
 
 put-made-requires : tie.Need-put-made-requires
 put-made-requires c κs =
-    let h = holds-state _ _ (c .before .before .before .before .before .before .before .before .before .before .before .before .before .before .before .before .before .before .state-in .ensures) _ (c .before .before .before .before .before .before .before .before .before .before .before .before .before .before .before .before .s .given .1) in
-    begins _ _ _ _ _ _ (write _ _) (write-makes _ _) _ (c .before .before .before .before .before .before .before .before .before .before .write .result .state) h _ _ _ _ _ _ (c .before .before .before .before .before .before .before .before .before .before .write .ensures)
+    let p10 = c .before .before .before .before .before .before .before .before .before .before in
+    let p16 = p10 .before .before .before .before .before .before in
+    let p18 = p16 .before .before in
+    let h = holds-state _ _ (p18 .state-in .ensures) _ (p16 .s .given .1) in
+    begins _ _ _ _ _ _ (write _ _) (write-makes _ _) _ (p10 .write .result .state) h _ _ _ _ _ _ (p10 .write .ensures)
 
 returns-2 : tie.Need-returns-2
-returns-2 c = let h = holds-state _ _ (c .before .before .before .before .before .before .before .before .before .before .before .before .before .before .before .before .before .before .before .before .before .before .state-in .ensures) _ (c .before .before .before .before .before .before .before .before .before .before .before .before .before .before .before .before .before .before .before .before .s .given .1) in crossed _ _ _ _ _ _ _ refl _ _ (h .is-state) _ (c .before .before .before .before .before .before .before .before .before .before .before .before .before .before .write .result .state) _ _ _ _ _ _ _ _ _ (h .read) (c .before .before .before .before .before .before .before .before .before .before .before .before .before .before .write .ensures) (c .number-of .ensures) refl (c .before .before .before .put-made .ensures)
+returns-2 c =
+    let p3 = c .before .before .before in
+    let p14 = p3 .before .before .before .before .before .before .before .before .before .before .before in
+    let p20 = p14 .before .before .before .before .before .before in
+    let p22 = p20 .before .before in
+    let h = holds-state _ _ (p22 .state-in .ensures) _ (p20 .s .given .1) in crossed _ _ _ _ _ _ _ refl _ _ (h .is-state) _ (p14 .write .result .state) _ _ _ _ _ _ _ _ _ (h .read) (p14 .write .ensures) (c .number-of .ensures) refl (p3 .put-made .ensures)
 
 pub keeper-write-spec : {M : Type 1} → statement M
 keeper-write-spec =

@@ -12,13 +12,22 @@ returns : tie.Need-returns
 returns c = commit-refused _ _ _ _ (c .before .before .commit .ensures) (c .refused .ensures) (c .before .if1 .taken)
 
 add-number : tie.Need-add-number
-add-number c = let w = commit-passed (c .before .before .before .before .before .before .args .self .numbers) (c .before .before .before .before .before .before .args .self .phase) [] [] [] [] (c .before .before .before .before .before .before .args .waiting .now) (sym (c .before .before .commit .ensures) ∙ c .before .if1 .left) in omega (arith, w .2)
+add-number c =
+    let a = c .before .before .before .before .before .before .args in
+    let w = commit-passed (a .self .numbers) (a .self .phase) [] [] [] [] (a .waiting .now) (sym (c .before .before .commit .ensures) ∙ c .before .if1 .left) in omega (arith, w .2)
 
 append-requires : tie.Need-append-requires
-append-requires c κs = let w = commit-passed (c .before .before .before .before .before .before .before .args .self .numbers) (c .before .before .before .before .before .before .before .args .self .phase) [] [] [] [] (c .before .before .before .before .before .before .before .args .waiting .now) (sym (c .before .before .before .commit .ensures) ∙ c .before .before .if1 .left) in omega (arith, w .0, w .1, w .2)
+append-requires c κs =
+    let a = c .before .before .before .before .before .before .before .args in
+    let w = commit-passed (a .self .numbers) (a .self .phase) [] [] [] [] (a .waiting .now) (sym (c .before .before .before .commit .ensures) ∙ c .before .before .if1 .left) in omega (arith, w .0, w .1, w .2)
 
 returns-2 : tie.Need-returns-2
-returns-2 c = commit-done (c .before .before .before .before .before .before .before .before .before .before .before .before .args .self) _ _ _ (c .before .before .before .before .before .before .before .before .commit .ensures) _ _ _ refl (c .before .before .before .before .append .ensures) (c .before .made .ensures) (c .done .ensures) (c .before .before .before .before .before .before .before .if1 .left)
+returns-2 c =
+    let p4 = c .before .before .before .before in
+    let p7 = p4 .before .before .before in
+    let p8 = p7 .before in
+    let p12 = p8 .before .before .before .before in
+    commit-done (p12 .args .self) _ _ _ (p8 .commit .ensures) _ _ _ refl (p4 .append .ensures) (c .before .made .ensures) (c .done .ensures) (p7 .if1 .left)
 
 pub commit-spec : {M : Type 1} → statement M
 commit-spec =

@@ -12,10 +12,17 @@ returns : tie.Need-returns
 returns c = cut-refused _ _ _ _ _ _ (c .before .before .cut .ensures) (c .refused .ensures) (c .before .if1 .taken)
 
 store-head-requires : tie.Need-store-head-requires
-store-head-requires c κs = let w = cut-passed (c .before .before .before .before .before .before .before .args .self .numbers) (c .before .before .before .before .before .before .before .args .self .phase) (c .before .before .before .before .before .before .before .args .medium .now) [] (c .before .before .before .before .before .before .before .args .first .now) [] [] (c .before .before .before .before .before .before .before .args .p) (sym (c .before .before .cut .ensures) ∙ c .before .if1 .left) in omega (arith, w)
+store-head-requires c κs =
+    let a = c .before .before .before .before .before .before .before .args in
+    let w = cut-passed (a .self .numbers) (a .self .phase) (a .medium .now) [] (a .first .now) [] [] (a .p) (sym (c .before .before .cut .ensures) ∙ c .before .if1 .left) in omega (arith, w)
 
 returns-2 : tie.Need-returns-2
-returns-2 c = cut-done (c .before .before .before .before .before .before .before .before .before .before .before .args .self) _ _ _ _ _ (c .before .before .before .before .before .before .cut .ensures) _ (c .before .before .before .before .before .if1 .left) (c .before .before .before .store-head .ensures) (c .done .ensures)
+returns-2 c =
+    let p3 = c .before .before .before in
+    let p5 = p3 .before .before in
+    let p6 = p5 .before in
+    let p11 = p6 .before .before .before .before .before in
+    cut-done (p11 .args .self) _ _ _ _ _ (p6 .cut .ensures) _ (p5 .if1 .left) (p3 .store-head .ensures) (c .done .ensures)
 
 pub cut-spec : {M : Type 1} → statement M
 cut-spec =

@@ -12,13 +12,27 @@ returns : tie.Need-returns
 returns c = force-refused _ _ _ _ _ (c .before .before .force .ensures) (c .refused .ensures) (c .before .if1 .taken)
 
 returns-2 : tie.Need-returns-2
-returns-2 c = force-none (c .before .before .before .before .before .before .before .before .before .args .self) _ _ _ _ (c .before .before .before .before .force .ensures) (c .before .before .before .if1 .left) (omega arith) (c .done .ensures)
+returns-2 c =
+    let p3 = c .before .before .before in
+    let p4 = p3 .before in
+    let p9 = p4 .before .before .before .before .before in
+    force-none (p9 .args .self) _ _ _ _ (p4 .force .ensures) (p3 .if1 .left) (omega arith) (c .done .ensures)
 
 store-row-requires : tie.Need-store-row-requires
-store-row-requires c κs = let w = force-passed (c .before .before .before .before .before .before .before .before .before .before .args .self .numbers) (c .before .before .before .before .before .before .before .before .before .before .args .self .phase) (c .before .before .before .before .before .before .before .before .before .before .args .medium .now) [] [] [] (c .before .before .before .before .before .before .before .before .before .before .args .waiting .now) (sym (c .before .before .before .before .before .force .ensures) ∙ c .before .before .before .before .if1 .left) in omega (arith, w .0, w .1, w .2)
+store-row-requires c κs =
+    let p4 = c .before .before .before .before in
+    let p5 = p4 .before in
+    let p10 = p5 .before .before .before .before .before in
+    let a = p10 .args in
+    let w = force-passed (a .self .numbers) (a .self .phase) (a .medium .now) [] [] [] (a .waiting .now) (sym (p5 .force .ensures) ∙ p4 .if1 .left) in omega (arith, w .0, w .1, w .2)
 
 returns-3 : tie.Need-returns-3
-returns-3 c = force-stored (c .before .before .before .before .before .before .before .before .before .before .before .before .before .before .args .self) _ _ _ _ (c .before .before .before .before .before .before .before .before .before .force .ensures) _ _ (c .before .before .before .before .before .before .before .before .if1 .left) (omega arith) refl (c .before .before .before .store-row .ensures) (c .done2 .ensures)
+returns-3 c =
+    let p3 = c .before .before .before in
+    let p8 = p3 .before .before .before .before .before in
+    let p9 = p8 .before in
+    let p14 = p9 .before .before .before .before .before in
+    force-stored (p14 .args .self) _ _ _ _ (p9 .force .ensures) _ _ (p8 .if1 .left) (omega arith) refl (p3 .store-row .ensures) (c .done2 .ensures)
 
 pub force-spec : {M : Type 1} → statement M
 force-spec =

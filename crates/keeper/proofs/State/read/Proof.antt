@@ -12,10 +12,17 @@ returns : tie.Need-returns
 returns c = read-refused _ _ _ _ _ (c .before .before .read .ensures) (c .refused .ensures) (c .before .if1 .taken)
 
 shared-slice-read-done : tie.Need-shared-slice-read-done
-shared-slice-read-done c = let w = read-passed (c .before .before .before .before .before .before .args .self .numbers) (c .before .before .before .before .before .before .args .self .phase) [] (c .before .before .before .before .before .before .args .current .now) [] [] [] (c .before .before .before .before .before .before .args .cell) (sym (c .before .before .before .read .ensures) ∙ c .before .before .if1 .left) in omega (arith, w)
+shared-slice-read-done c =
+    let a = c .before .before .before .before .before .before .args in
+    let w = read-passed (a .self .numbers) (a .self .phase) [] (a .current .now) [] [] [] (a .cell) (sym (c .before .before .before .read .ensures) ∙ c .before .before .if1 .left) in omega (arith, w)
 
 returns-2 : tie.Need-returns-2
-returns-2 c = read-done (c .before .before .before .before .before .before .before .args .self) _ _ _ _ (c .before .before .before .before .read .ensures) _ _ (c .before .before .index .ensures .0) refl (c .done .ensures) (c .before .before .before .if1 .left)
+returns-2 c =
+    let p2 = c .before .before in
+    let p3 = p2 .before in
+    let p4 = p3 .before in
+    let p7 = p4 .before .before .before in
+    read-done (p7 .args .self) _ _ _ _ (p4 .read .ensures) _ _ (p2 .index .ensures .0) refl (c .done .ensures) (p3 .if1 .left)
 
 pub read-spec : {M : Type 1} → statement M
 read-spec =

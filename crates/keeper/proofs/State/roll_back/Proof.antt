@@ -6,7 +6,11 @@ use Rattle.keeper.proofs.State.roll_back.Statement.{statement}
 use Rattle.keeper.proofs.State.roll_back.Tie as tie
 
 returns : tie.Need-returns
-returns c = roll-done (c .before .before .before .before .before .before .before .before .before .before .before .before .before .before .before .before .before .before .before .before .before .before .args .self) _ 0 _ _ _ _ _ _ _ _ _ _ _ refl (c .before .before .before .before .before .before .before .before .before .before .before .before .before .before .before .append .ensures) (c .before .before .before .before .before .before .before .before .rollback .ensures) (c .before .made .ensures) (c .done .ensures)
+returns c =
+    let p8 = c .before .before .before .before .before .before .before .before in
+    let p15 = p8 .before .before .before .before .before .before .before in
+    let p22 = p15 .before .before .before .before .before .before .before in
+    roll-done (p22 .args .self) _ 0 _ _ _ _ _ _ _ _ _ _ _ refl (p15 .append .ensures) (p8 .rollback .ensures) (c .before .made .ensures) (c .done .ensures)
 
 pub roll-back-spec : {M : Type 1} → statement M
 roll-back-spec =

@@ -12,19 +12,45 @@ returns : tie.Need-returns
 returns c = write-refused _ _ _ _ _ _ _ _ _ (c .before .before .write .ensures) (c .refused .ensures) (c .before .if1 .taken)
 
 add-n : tie.Need-add-n
-add-n c = let w = write-passed (c .before .before .before .before .before .before .before .before .before .before .before .before .args .self .numbers) (c .before .before .before .before .before .before .before .before .before .before .before .before .args .self .phase) [] (c .before .before .before .before .before .before .before .before .before .before .before .before .args .current .now) (c .before .before .before .before .before .before .before .before .before .before .before .before .args .first .now) (c .before .before .before .before .before .before .before .before .before .before .before .before .args .last .now) (c .before .before .before .before .before .before .before .before .before .before .before .before .args .waiting .now) (c .before .before .before .before .before .before .before .before .before .before .before .before .args .cell) 0 (sym (c .before .before .write .ensures 0) ∙ c .before .if1 .left) in omega (arith, w .0)
+add-n c =
+    let p2 = c .before .before in
+    let p12 = p2 .before .before .before .before .before .before .before .before .before .before in
+    let a = p12 .args in
+    let w = write-passed (a .self .numbers) (a .self .phase) [] (a .current .now) (a .first .now) (a .last .now) (a .waiting .now) (a .cell) 0 (sym (p2 .write .ensures 0) ∙ c .before .if1 .left) in omega (arith, w .0)
 
 slice-read-old : tie.Need-slice-read-old
-slice-read-old c = let w = write-passed (c .before .before .before .before .before .before .before .before .before .before .before .before .before .before .args .self .numbers) (c .before .before .before .before .before .before .before .before .before .before .before .before .before .before .args .self .phase) [] (c .before .before .before .before .before .before .before .before .before .before .before .before .before .before .args .current .now) (c .before .before .before .before .before .before .before .before .before .before .before .before .before .before .args .first .now) (c .before .before .before .before .before .before .before .before .before .before .before .before .before .before .args .last .now) (c .before .before .before .before .before .before .before .before .before .before .before .before .before .before .args .waiting .now) (c .before .before .before .before .before .before .before .before .before .before .before .before .before .before .args .cell) 0 (sym (c .before .before .before .before .write .ensures 0) ∙ c .before .before .before .if1 .left) in omega (arith, w .0, w .1)
+slice-read-old c =
+    let p3 = c .before .before .before in
+    let p4 = p3 .before in
+    let p14 = p4 .before .before .before .before .before .before .before .before .before .before in
+    let a = p14 .args in
+    let w = write-passed (a .self .numbers) (a .self .phase) [] (a .current .now) (a .first .now) (a .last .now) (a .waiting .now) (a .cell) 0 (sym (p4 .write .ensures 0) ∙ p3 .if1 .left) in omega (arith, w .0, w .1)
 
 append-requires : tie.Need-append-requires
-append-requires c κs = let w = write-passed (c .before .before .before .before .before .before .before .before .before .before .before .before .before .before .before .args .self .numbers) (c .before .before .before .before .before .before .before .before .before .before .before .before .before .before .before .args .self .phase) [] (c .before .before .before .before .before .before .before .before .before .before .before .before .before .before .before .args .current .now) (c .before .before .before .before .before .before .before .before .before .before .before .before .before .before .before .args .first .now) (c .before .before .before .before .before .before .before .before .before .before .before .before .before .before .before .args .last .now) (c .before .before .before .before .before .before .before .before .before .before .before .before .before .before .before .args .waiting .now) (c .before .before .before .before .before .before .before .before .before .before .before .before .before .before .before .args .cell) 0 (sym (c .before .before .before .before .before .write .ensures 0) ∙ c .before .before .before .before .if1 .left) in omega (arith, w .0, w .1)
+append-requires c κs =
+    let p4 = c .before .before .before .before in
+    let p5 = p4 .before in
+    let p15 = p5 .before .before .before .before .before .before .before .before .before .before in
+    let a = p15 .args in
+    let w = write-passed (a .self .numbers) (a .self .phase) [] (a .current .now) (a .first .now) (a .last .now) (a .waiting .now) (a .cell) 0 (sym (p5 .write .ensures 0) ∙ p4 .if1 .left) in omega (arith, w .0, w .1)
 
 assign-requires : tie.Need-assign-requires
-assign-requires c κs = let w = write-passed (c .before .before .before .before .before .before .before .before .before .before .before .before .before .before .before .before .before .before .before .before .before .args .self .numbers) (c .before .before .before .before .before .before .before .before .before .before .before .before .before .before .before .before .before .before .before .before .before .args .self .phase) [] (c .before .before .before .before .before .before .before .before .before .before .before .before .before .before .before .before .before .before .before .before .before .args .current .now) (c .before .before .before .before .before .before .before .before .before .before .before .before .before .before .before .before .before .before .before .before .before .args .first .now) (c .before .before .before .before .before .before .before .before .before .before .before .before .before .before .before .before .before .before .before .before .before .args .last .now) (c .before .before .before .before .before .before .before .before .before .before .before .before .before .before .before .before .before .before .before .before .before .args .waiting .now) (c .before .before .before .before .before .before .before .before .before .before .before .before .before .before .before .before .before .before .before .before .before .args .cell) 0 (sym (c .before .before .before .before .before .before .before .before .before .before .before .write .ensures 0) ∙ c .before .before .before .before .before .before .before .before .before .before .if1 .left) in omega (arith, w .0, w .1)
+assign-requires c κs =
+    let p10 = c .before .before .before .before .before .before .before .before .before .before in
+    let p11 = p10 .before in
+    let p21 = p11 .before .before .before .before .before .before .before .before .before .before in
+    let a = p21 .args in
+    let w = write-passed (a .self .numbers) (a .self .phase) [] (a .current .now) (a .first .now) (a .last .now) (a .waiting .now) (a .cell) 0 (sym (p11 .write .ensures 0) ∙ p10 .if1 .left) in omega (arith, w .0, w .1)
 
 returns-2 : tie.Need-returns-2
-returns-2 c = write-done (c .before .before .before .before .before .before .before .before .before .before .before .before .before .before .before .before .before .before .before .before .before .before .before .before .before .before .before .before .before .before .args .self) _ _ _ _ _ _ _ _ (c .before .before .before .before .before .before .before .before .before .before .before .before .before .before .before .before .before .before .before .before .write .ensures) _ _ _ _ _ _ _ _ refl (c .before .before .before .before .before .before .before .before .before .before .before .before .before .before .before .before .before .index .ensures .0) refl (c .before .before .before .before .before .before .before .before .before .before .before .before .before .before .append .ensures) (c .before .before .before .before .before .before .before .before .assign .ensures) (c .before .made .ensures) (c .done .ensures) (c .before .before .before .before .before .before .before .before .before .before .before .before .before .before .before .before .before .before .before .if1 .left)
+returns-2 c =
+    let p8 = c .before .before .before .before .before .before .before .before in
+    let p14 = p8 .before .before .before .before .before .before in
+    let p17 = p14 .before .before .before in
+    let p19 = p17 .before .before in
+    let p20 = p19 .before in
+    let p30 = p20 .before .before .before .before .before .before .before .before .before .before in
+    write-done (p30 .args .self) _ _ _ _ _ _ _ _ (p20 .write .ensures) _ _ _ _ _ _ _ _ refl (p17 .index .ensures .0) refl (p14 .append .ensures) (p8 .assign .ensures) (c .before .made .ensures) (c .done .ensures) (p19 .if1 .left)
 
 pub write-spec : {M : Type 1} → statement M
 write-spec =

@@ -17,10 +17,12 @@ abbrev μ-loop : tie.MeasureT-loop
 μ-loop medium slots cells s n current₀ k₀ current k = k
 
 loop-again : tie.Need-loop-again Inv-loop μ-loop
-loop-again c = (
-  c .before .before .undo-entry .kept .1 .1 .1 .1 .0 ∙ c .before .before .before .before .before .loop .inv .0,
-  undo-again _ _ _ _ _ (c .before .before .before .before .before .loop .inv .1) (search needs) _ (c .before .before .undo-entry .ensures),
-)
+loop-again c =
+    let p2 = c .before .before in
+    let p5 = p2 .before .before .before in (
+      p2 .undo-entry .kept .1 .1 .1 .1 .0 ∙ p5 .loop .inv .0,
+      undo-again _ _ _ _ _ (p5 .loop .inv .1) (search needs) _ (p2 .undo-entry .ensures),
+    )
 
 returns : tie.Need-returns Inv-loop μ-loop
 returns c = undo-done _ _ _ _ _ (c .before .loop .inv .1) (search needs)

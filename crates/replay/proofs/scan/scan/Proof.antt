@@ -22,16 +22,26 @@ abbrev μ-loop : tie.MeasureT-loop
 μ-loop medium slots cells h n₀ left₀ at₀ n left at = left
 
 loop-holds : tie.Need-loop-holds Inv-loop μ-loop
-loop-holds c = (omega (arith, most-fits (c .before .before .before .args .slots) (c .before .before .before .args .h) (omega arith)), (scan-starts _ _ _ _ _ (c .before .at-most .ensures), c .first-row .ensures))
+loop-holds c =
+    let a = c .before .before .before .args in
+    (omega (arith, most-fits (a .slots) (a .h) (omega arith)), (scan-starts _ _ _ _ _ (c .before .at-most .ensures), c .first-row .ensures))
 
 returns : tie.Need-returns Inv-loop μ-loop
 returns c = scan-stop _ _ _ _ _ _ (c .before .before .before .loop .inv .1 .0) (omega arith) (λ z. omega (arith, number-from _ _ _ _ (c .before .before .before .loop .inv .1 .1 .0) _ (c .before .get4 .ensures)))
 
 returns-2 : tie.Need-returns-2 Inv-loop μ-loop
-returns-2 c = scan-bad _ _ _ _ _ _ (c .before .before .before .before .before .before .loop .inv .1 .0) (omega arith) (omega (arith, number-from _ _ _ _ (c .before .before .before .before .before .before .loop .inv .1 .1 .0) _ (c .before .before .before .before .get4 .ensures))) (is-nothing _ _ (read-from _ _ _ _ (c .before .before .before .before .before .before .loop .inv .1 .1 .0) _ _ (c .before .before .entry-from .ensures)) (c .enum-told2 .given .1))
+returns-2 c =
+    let p2 = c .before .before in
+    let p4 = p2 .before .before in
+    let p6 = p4 .before .before in
+    scan-bad _ _ _ _ _ _ (p6 .loop .inv .1 .0) (omega arith) (omega (arith, number-from _ _ _ _ (p6 .loop .inv .1 .1 .0) _ (p4 .get4 .ensures))) (is-nothing _ _ (read-from _ _ _ _ (p6 .loop .inv .1 .1 .0) _ _ (p2 .entry-from .ensures)) (c .enum-told2 .given .1))
 
 loop-again : tie.Need-loop-again Inv-loop μ-loop
-loop-again c = (omega arith, (scan-again _ _ _ _ _ _ (c .before .before .before .before .before .before .before .loop .inv .1 .0) (omega arith) (omega (arith, number-from _ _ _ _ (c .before .before .before .before .before .before .before .loop .inv .1 .1 .0) _ (c .before .before .before .before .before .get4 .ensures))) _ (is-some _ _ (read-from _ _ _ _ (c .before .before .before .before .before .before .before .loop .inv .1 .1 .0) _ _ (c .before .before .before .entry-from .ensures)) _ (c .before .enum-told .given .1)), c .next-row .ensures _ (omega arith) (c .before .before .before .before .before .before .before .loop .inv .1 .1 .0)))
+loop-again c =
+    let p3 = c .before .before .before in
+    let p5 = p3 .before .before in
+    let p7 = p5 .before .before in
+    (omega arith, (scan-again _ _ _ _ _ _ (p7 .loop .inv .1 .0) (omega arith) (omega (arith, number-from _ _ _ _ (p7 .loop .inv .1 .1 .0) _ (p5 .get4 .ensures))) _ (is-some _ _ (read-from _ _ _ _ (p7 .loop .inv .1 .1 .0) _ _ (p3 .entry-from .ensures)) _ (c .before .enum-told .given .1)), c .next-row .ensures _ (omega arith) (p7 .loop .inv .1 .1 .0)))
 
 returns-3 : tie.Need-returns-3 Inv-loop μ-loop
 returns-3 c = scan-done _ _ _ _ _ _ (c .before .loop .inv .1 .0) (omega arith)
