@@ -9,16 +9,14 @@ use mathlib.Core.Option.{Option, none, some}
 use native.Mathlib.Omega.{arith}
 use lib.Dec.{ltb}
 use lib.ListN.{replicate}
-use Rattle.scope.specs.Bytes.{pick, numberAt}
-use Rattle.scope.specs.Row.{Entry}
-use Rattle.scope.specs.Keeper.{Phase, recovering, State, Keeper, Answer, done, head, clean, Outcome, refusalOf, noState, isRecovering, inRange, sound, withState, withMedium, storeCell}
-use Rattle.scope.specs.Recovery.{journal, tableOf, differing}
+use Rattle.scope.specs.Bytes.{pick}
+use Rattle.scope.specs.Keeper.{recovering, State, Keeper, Answer, done, head, clean, Outcome, refusalOf, noState, isRecovering, inRange, sound, withState, withMedium, storeCell}
 use Rattle.scope.specs.Refusals.{Call, Format, RecoveryStart, RecoveryStep, Begin, Commit, Abort, Force, TableView, Read, WriteBack, Cut, Look, Write, unfit, tests, refusal}
-use Rattle.scope.specs.Calls.{unless, format, startWith, unlessStart, recoveryStart, stepAt, recoveryStep, tableView, act}
+use Rattle.scope.specs.Calls.{stepAt, performed, unchanged, unless, act}
 use Rattle.scope.specs.History.{Event, call, powerLoss, happen, answers, allowed, Allowed, formatted, Transactions, nothingYet, tell, story, afresh}
 use Rattle.scope.specs.Demands.{ended, NoneEnded, FirstRecovery}
-use Rattle.scope.proofs.Refusals.{First, first-refusal, unless-declined}
-use Rattle.scope.proofs.Callers.{unchanged, refused-unchanged}
+use Rattle.scope.proofs.Refusals.{First, first-refusal, Either, call-cases, declined-refused}
+use Rattle.scope.proofs.Callers.{refused-unchanged}
 
 Shut : State → Type 0
 Shut s = (s ≡ noState) ⊎ (s .phase ≡ recovering)
@@ -79,13 +77,6 @@ shut-refused a x k (inr e) = go (unfit a k) refl
     go true q = (0, first-refusal a k 1 (first-two a x k 1 (inl (q, refl))))
     go false q = (9, first-refusal a k 10 (first-two a x k 10 (inr (q, unfold isRecovering in ap isRecovering e, refl))))
 
--- a call leaves it so where, done, it would
-unless-shut : (n : ℕ) (o : Outcome) (k : Keeper) → Shut (k .state) → ended (unless n o k .answer) ≡ false
-    → (ended (o .answer) ≡ false → Shut (o .keeper .state)) → Shut (unless n o k .keeper .state)
-unfolding unless
-unless-shut zero o k s e f = f e
-unless-shut (suc n) o k s e f = s
-
 -- a step that does not end recovery
 step-stays : (k : Keeper) (o : Option ℕ) → k .state .phase ≡ recovering → ended (stepAt o k .answer) ≡ false → Shut (stepAt o k .keeper .state)
 unfolding stepAt storeCell withMedium Shut
@@ -97,25 +88,33 @@ step-stays k none p e = absurd (never (ltb (k .state .h) (k .state .l)) _ _ e)
     never false x y e = false≢true (sym e)
 
 step-shut : (k : Keeper) → Shut (k .state) → ended (act RecoveryStep k .answer) ≡ false → Shut (act RecoveryStep k .keeper .state)
-unfolding act recoveryStep tests Shut
+unfolding tests performed Shut
 step-shut k (inl q) e =
     subst (λ (o : Outcome). Shut (o .keeper .state))
     (sym (refused-unchanged RecoveryStep k 0 (first-refusal RecoveryStep k 1 (inl (stateless-unfit RecoveryStep k q, refl))))) (inl q)
-step-shut k (inr p) e = unless-shut (refusal RecoveryStep k) _ k (inr p) e (step-stays k _ p)
+step-shut k (inr p) e = go (call-cases RecoveryStep k)
+  where
+    go : Either RecoveryStep k (act RecoveryStep k) (performed RecoveryStep k) → Shut (act RecoveryStep k .keeper .state)
+    go (inl q) = subst (λ (o : Outcome). Shut (o .keeper .state)) (sym (q .1)) (inr p)
+    go (inr q) =
+        subst (λ (o : Outcome). Shut (o .keeper .state)) (sym (q .1))
+        (unfold performed in step-stays k _ p (subst (λ (o : Outcome). ended (o .answer) ≡ false) (q .1) e))
 
 start-shut : (k : Keeper) → Shut (act RecoveryStart k .keeper .state)
-unfolding act recoveryStart
-start-shut k = go (refusal RecoveryStart k) (journal (numberAt 4 0 (k .medium)) (numberAt 4 4 (k .medium)) (numberAt 4 8 (k .medium)) (k .medium))
+unfolding act performed
+start-shut k = go (refusal RecoveryStart k)
   where
-    go : (i : ℕ) (o : Option (List Entry))
-        → Shut (unlessStart i (startWith (numberAt 4 0 (k .medium)) (numberAt 4 4 (k .medium)) (numberAt 4 8 (k .medium)) o k) k .keeper .state)
-    go zero (some es) = unfold unlessStart startWith Shut in inr refl
-    go zero none = unfold unlessStart startWith withState Shut in inl refl
-    go (suc i) o = unfold unlessStart withState Shut in inl refl
+    go : (i : ℕ) → Shut (unless i (performed RecoveryStart k) (unchanged RecoveryStart k) .keeper .state)
+    go zero = unfold performed Shut in inr refl
+    go (suc i) = unfold withState Shut in inl refl
 
-view-shut : (k : Keeper) → Shut (k .state) → ended (act TableView k .answer) ≡ false → Shut (act TableView k .keeper .state)
-unfolding act tableView
-view-shut k s e = unless-shut (refusal TableView k) _ k s e (λ z. s)
+view-shut : (k : Keeper) → Shut (k .state) → Shut (act TableView k .keeper .state)
+unfolding act performed
+view-shut k s = go (refusal TableView k)
+  where
+    go : (i : ℕ) → Shut (unless i (performed TableView k) (unchanged TableView k) .keeper .state)
+    go zero = unfold performed in s
+    go (suc i) = s
 
 -- one event
 refused-story : (a : Call) → takesPart a → (r : Answer) (n : ℕ) → refusalOf r ≡ suc n → tell (call a) r nothingYet ≡ nothingYet
@@ -145,9 +144,9 @@ part-still a x k s u =
     )
 
 format-still : (n c : ℕ) (k : Keeper) → Shut (k .state) → refusalOf (act (Format n c) k .answer) ≢ 0 → Still (call (Format n c)) k
-unfolding Still happen act format
+unfolding Still happen performed
 format-still n c k s d =
-    let q = unless-declined (refusal (Format n c) k) _ k refl d in
+    let q = declined-refused (Format n c) k refl d in
     (rw (ap (λ (o : Outcome). refusalOf (o .answer)) (q .1)), subst (λ (o : Outcome). Shut (o .keeper .state)) (sym (q .1)) s)
 
 still : (e : Event) (k : Keeper) → Shut (k .state) → allowed (Unit {0}) e (happen e k .answer) → ended (happen e k .answer) ≡ false → Still e k
@@ -159,7 +158,7 @@ still (call Begin) k s a e = part-still Begin tt k s refl
 still (call Commit) k s a e = part-still Commit tt k s refl
 still (call Abort) k s a e = part-still Abort tt k s refl
 still (call Force) k s a e = part-still Force tt k s refl
-still (call TableView) k s a e = (refl, view-shut k s e)
+still (call TableView) k s a e = (refl, view-shut k s)
 still (call (Read c)) k s a e = part-still (Read c) tt k s refl
 still (call (WriteBack c)) k s a e = part-still (WriteBack c) tt k s refl
 still (call (Cut p)) k s a e = part-still (Cut p) tt k s refl
@@ -176,13 +175,12 @@ stills (x ∷ es) k s a e =
     ap (story es (answers es (happen x k .keeper))) (q .0) ∙ stills es (happen x k .keeper) (q .1) (a .1) (e .1)
 
 format-shut : (n c : ℕ) (k : Keeper) → act (Format n c) k .answer ≡ done 0 → Shut (formatted n c k .state)
-unfolding act format
-format-shut n c k e = go (refusal (Format n c) k) _ e
+unfolding act performed
+format-shut n c k e = go (refusal (Format n c) k) e
   where
-    go : (i : ℕ) (m : List ℕ) → unless i (record { answer = done 0; keeper = withState noState (withMedium m k) }) k .answer ≡ done 0
-        → Shut (unless i (record { answer = done 0; keeper = withState noState (withMedium m k) }) k .keeper .state)
-    go zero m e = unfold unless withState Shut in inl refl
-    go (suc i) m e = let z : suc i ≡ 0 = unfold unless in ap refusalOf e in absurd (omega arith)
+    go : (i : ℕ) → unless i (performed (Format n c) k) k .answer ≡ done 0 → Shut (unless i (performed (Format n c) k) k .keeper .state)
+    go zero e = unfold performed withState Shut in inl refl
+    go (suc i) e = let z : suc i ≡ 0 = ap refusalOf e in absurd (omega arith)
 
 pub nothing-counts : FirstRecovery
 nothing-counts n c k es h e =

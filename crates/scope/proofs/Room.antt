@@ -1,13 +1,12 @@
 -- Rows 5 and 6 of the table are the paper's: "begin in idle, l-h = C; begin in run, or write, l-h > C-2" and "begin in idle, l = M; begin in run,
 -- or write, l > M-2", in every sound state. By what a sound state's numbers are.
-use Prim.Native.Nat.{ℕ, _+_, _-_, _<_}
-use mathlib.Core.Path.{_≡_, subst, sym, ap, _∙_}
+use Prim.Native.Nat.{_+_, _-_, _<_}
+use mathlib.Core.Path.{_≡_}
 use mathlib.Core.Bool.{Bool, true}
 use native.Mathlib.Omega.{arith}
 use borrow.Author.Tests.{ltb-true, lt-ltb}
-use lib.Dec.{ltb}
 use Rattle.scope.specs.Bytes.{maxNo}
-use Rattle.scope.specs.Keeper.{Phase, idle, run, State, sound}
+use Rattle.scope.specs.Keeper.{idle, run, State, sound}
 use Rattle.scope.specs.Refusals.{openCount, full, usedUp}
 use Rattle.scope.proofs.Sound.{Sound, sound-facts}
 
