@@ -6,12 +6,16 @@ use mathlib.Core.List.{List}
 use borrow.Author.Tests.{eq-eqb, ne-eqb}
 use lib.ListN.{length}
 use Rattle.scope.specs.Bytes.{pick}
-use Rattle.scope.specs.Keeper.{Keeper, Answer, Outcome, State, refused, noState, refusalOf}
+use Rattle.scope.specs.Keeper.{Answer, Outcome, State, refused, noState, refusalOf}
+use Rattle.scope.specs.Refusals.{Call, RecoveryStart}
+use Rattle.scope.specs.Calls.{act}
+use Rattle.scope.proofs.Callers.{takesState}
 use Rattle.state.specs.State.{stateOf}
 use Rattle.state.specs.Lent.{lentTo, stateless}
 use Rattle.keeper.specs.Answers.{handed, leaves}
 use Rattle.keeper.specs.declared.State as code
 use Rattle.boundary.proofs.SevenNumbers.{put-back}
+use Rattle.boundary.proofs.Unsound.{zeros-refused}
 use Rattle.boundary.specs.Boundary.{numbersOf, isState, seven, stateIn, stateAfter, result, noValue, lentOver, handedBack, over, startOver}
 
 module _ (xs m c f l w : List ℕ) (t : Bool) (e : t ≡ isState xs) where
@@ -28,45 +32,45 @@ module _ (xs m c f l w : List ℕ) (t : Bool) (e : t ≡ isState xs) where
   lent-none p =
       ap (λ b. record { medium = m; current = c; first = f; last = l; waiting = w; state = pick b (seven xs) noState }) (sym p ∙ e)
 
-  module _ (value : Answer → ℕ) (call : Keeper → Outcome) where
+  module _ (value : Answer → ℕ) (which : Call) where
     pub crossed : t ≡ true → (s next : code.State) (a : Answer) (m2 c2 f2 l2 w2 : List ℕ) (number v : ℕ) (ys : List ℕ)
-        → stateOf (s .numbers) (s .phase) ≡ seven xs → leaves a next m2 c2 f2 l2 w2 ≡ call (handed s m c f l w) → number ≡ refusalOf a → v ≡ value a
-        → ys ≡ numbersOf (stateOf (next .numbers) (next .phase)) → result number v ys m2 c2 f2 l2 w2 ≡ over value call xs m c f l w
+        → stateOf (s .numbers) (s .phase) ≡ seven xs → leaves a next m2 c2 f2 l2 w2 ≡ act which (handed s m c f l w) → number ≡ refusalOf a → v ≡ value a
+        → ys ≡ numbersOf (stateOf (next .numbers) (next .phase)) → result number v ys m2 c2 f2 l2 w2 ≡ over value which xs m c f l w
     unfolding over handedBack stateAfter leaves handed lentTo
     crossed p s next a m2 c2 f2 l2 w2 number v ys q d n u y =
         let o : Outcome = leaves a next m2 c2 f2 l2 w2 in
         rw (n, u, y)
         (ap (λ b. handedBack value (pick b (numbersOf (o .keeper .state)) xs) o) (sym p ∙ e)
-        ∙ ap (λ (x : Outcome). handedBack value (stateAfter xs (x .keeper .state)) x) (d ∙ ap call (lent-state p s q)))
+        ∙ ap (λ (x : Outcome). handedBack value (stateAfter xs (x .keeper .state)) x) (d ∙ ap (act which) (lent-state p s q)))
 
     -- a refused call that keeps its state keeps the slice
     pub kept : t ≡ true → (s next : code.State) (a : Answer) (m2 c2 f2 l2 w2 : List ℕ) (number v : ℕ)
-        → stateOf (s .numbers) (s .phase) ≡ seven xs → leaves a next m2 c2 f2 l2 w2 ≡ call (handed s m c f l w) → number ≡ refusalOf a → v ≡ value a
-        → call (handed s m c f l w) .keeper .state ≡ stateOf (s .numbers) (s .phase) → result number v xs m2 c2 f2 l2 w2 ≡ over value call xs m c f l w
+        → stateOf (s .numbers) (s .phase) ≡ seven xs → leaves a next m2 c2 f2 l2 w2 ≡ act which (handed s m c f l w) → number ≡ refusalOf a → v ≡ value a
+        → act which (handed s m c f l w) .keeper .state ≡ stateOf (s .numbers) (s .phase) → result number v xs m2 c2 f2 l2 w2 ≡ over value which xs m c f l w
     unfolding leaves handed lentTo
     kept p s next a m2 c2 f2 l2 w2 number v q d n u y =
         crossed p s next a m2 c2 f2 l2 w2 number v xs q d n u
         (sym (put-back xs (sym e ∙ p)) ∙ ap numbersOf (sym q ∙ sym y ∙ sym (ap (λ (x : Outcome). x .keeper .state) d)))
 
-    pub no-state : t ≡ false → value (refused 1) ≡ 0 → call (stateless m c f l w) ≡ record { answer = refused 1; keeper = stateless m c f l w }
-        → result 1 0 xs m c f l w ≡ over value call xs m c f l w
+    pub no-state : t ≡ false → value (refused 1) ≡ 0 → takesState which → result 1 0 xs m c f l w ≡ over value which xs m c f l w
     unfolding over handedBack stateAfter stateless
-    no-state p z r =
+    no-state p z x =
+        let r = zeros-refused which x m c f l w in
         let o : Outcome = record { answer = refused 1; keeper = stateless m c f l w } in
         rw (← z)
         (ap (λ b. handedBack value (pick b (numbersOf noState) xs) o) (sym p ∙ e)
-        ∙ ap (λ (x : Outcome). handedBack value (stateAfter xs (x .keeper .state)) x) (sym r ∙ ap call (lent-none p)))
+        ∙ ap (λ (x : Outcome). handedBack value (stateAfter xs (x .keeper .state)) x) (sym r ∙ ap (act which) (lent-none p)))
 
 -- recovery start
 
-module _ (xs m c f l w : List ℕ) (call : Keeper → Outcome) where
-  pub start-other : (length xs ≡ 7 → ⊥) → result 1 0 xs m c f l w ≡ startOver call xs m c f l w
+module _ (xs m c f l w : List ℕ) where
+  pub start-other : (length xs ≡ 7 → ⊥) → result 1 0 xs m c f l w ≡ startOver xs m c f l w
   unfolding startOver
   start-other h = simp (ne-eqb (length xs) 7 h)
 
   pub start-crossed : length xs ≡ 7 → (next : code.State) (a : Answer) (m2 c2 f2 l2 w2 : List ℕ) (number : ℕ) (ys : List ℕ)
-      → leaves a next m2 c2 f2 l2 w2 ≡ call (stateless m c f l w) → number ≡ refusalOf a → ys ≡ numbersOf (stateOf (next .numbers) (next .phase))
-      → result number 0 ys m2 c2 f2 l2 w2 ≡ startOver call xs m c f l w
+      → leaves a next m2 c2 f2 l2 w2 ≡ act RecoveryStart (stateless m c f l w) → number ≡ refusalOf a → ys ≡ numbersOf (stateOf (next .numbers) (next .phase))
+      → result number 0 ys m2 c2 f2 l2 w2 ≡ startOver xs m c f l w
   unfolding startOver handedBack leaves handed lentTo stateless
   start-crossed h next a m2 c2 f2 l2 w2 number ys d n y =
       rw (n, y)

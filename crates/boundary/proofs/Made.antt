@@ -3,7 +3,8 @@ use Prim.Native.Nat.{ℕ, zero, suc}
 use mathlib.Core.Path.{_≡_, refl, sym, ap, _∙_}
 use mathlib.Core.List.{List}
 use Rattle.scope.specs.Keeper.{State, Keeper, Answer, Outcome, withState, madeTo}
-use Rattle.scope.specs.Calls.{unless, write, commit}
+use Rattle.scope.specs.Refusals.{Call, Write, Commit}
+use Rattle.scope.specs.Calls.{performed, unless, act}
 use Rattle.state.specs.State.{stateOf}
 use Rattle.state.specs.Lent.{lentTo}
 use Rattle.keeper.specs.Answers.{handed, leaves}
@@ -15,24 +16,23 @@ use Rattle.boundary.proofs.SevenNumbers.{Holds}
 abbrev First : State → State → Type 0
 First s t = (s .cells ≡ t .cells) × (s .slots ≡ t .slots) × (s .h ≡ t .h) × (s .f ≡ t .f)
 
-abbrev pub Makes : (Keeper → Outcome) → Type 0
-Makes call = (k : Keeper) → First (call k .keeper .state) (k .state)
+abbrev pub Makes : Call → Type 0
+Makes a = (k : Keeper) → First (act a k .keeper .state) (k .state)
 
 unless-makes : (x : ℕ) (o : Outcome) (k : Keeper) → First (o .keeper .state) (k .state) → First (unless x o k .keeper .state) (k .state)
-unfolding unless
 unless-makes zero o k e = e
 unless-makes (suc x) o k e = (refl, refl, refl, refl)
 
-pub write-makes : (cell value : ℕ) → Makes (write cell value)
-unfolding write withState madeTo
+pub write-makes : (cell value : ℕ) → Makes (Write cell value)
+unfolding act performed withState madeTo
 write-makes cell value k = unless-makes _ _ k (refl, refl, refl, refl)
 
-pub commit-makes : Makes commit
-unfolding commit withState madeTo
+pub commit-makes : Makes Commit
+unfolding act performed withState madeTo
 commit-makes k = unless-makes _ _ k (refl, refl, refl, refl)
 
-module _ (xs m c f l w : List ℕ) (call : Keeper → Outcome) (makes : Makes call) (s next : code.State) (held : Holds xs (stateOf (s .numbers) (s .phase))) where
-  pub begins : (a : Answer) (m2 c2 f2 l2 w2 : List ℕ) → leaves a next m2 c2 f2 l2 w2 ≡ call (handed s m c f l w) → Begins xs (next .numbers)
+module _ (xs m c f l w : List ℕ) (which : Call) (makes : Makes which) (s next : code.State) (held : Holds xs (stateOf (s .numbers) (s .phase))) where
+  pub begins : (a : Answer) (m2 c2 f2 l2 w2 : List ℕ) → leaves a next m2 c2 f2 l2 w2 ≡ act which (handed s m c f l w) → Begins xs (next .numbers)
   unfolding leaves handed lentTo stateOf seven
   begins a m2 c2 f2 l2 w2 d =
       let k = makes (handed s m c f l w) in

@@ -1,6 +1,6 @@
 -- Look and table view: one law for each exit; the part at the offset is the papers' part.
-use Prim.Native.Nat.{ℕ, zero, suc, _+_, _-_, _*_, _≤_, _<_}
-use mathlib.Core.Path.{_≡_, refl, sym, ap, subst, _∙_}
+use Prim.Native.Nat.{ℕ, _+_, _-_, _*_, _≤_, _<_}
+use mathlib.Core.Path.{_≡_, sym, ap, subst, _∙_}
 use mathlib.Core.Bool.{Bool, true, false}
 use mathlib.Core.List.{List, []}
 use native.Mathlib.Omega.{arith}
@@ -9,9 +9,10 @@ use lib.Dec.{eqb}
 use lib.ListN.{length, take, drop, length-drop}
 use lib.Seq.{take-all}
 use Rattle.scope.specs.Bytes.{numberAt}
-use Rattle.scope.specs.Keeper.{Keeper, part, refusalOf, rowAt}
+use Rattle.scope.specs.Keeper.{Keeper, refusalOf, rowAt}
 use Rattle.scope.specs.Refusals.{Look, TableView, refusal}
-use Rattle.scope.specs.Calls.{unless, look, tableView}
+use Rattle.scope.specs.Calls.{act}
+use Rattle.scope.proofs.Callers.{refusal-answered}
 use Rattle.state.specs.State.{stateOf}
 use Rattle.medium.specs.Lent.{onMedium}
 use Rattle.medium.proofs.Heads.{view-part}
@@ -22,27 +23,12 @@ use Rattle.keeper.proofs.LookLaws.{Looking, looking, medium-part, waiting-part}
 use Rattle.boundary.specs.Boundary.{isState, seven, lentOver}
 use Rattle.boundary.specs.Parts.{lookAt, Looked, viewAt, Viewed}
 use Rattle.boundary.proofs.Crossing.{lent-state, lent-none}
-use Rattle.boundary.proofs.Unsound.{look-unsound}
+use Rattle.boundary.proofs.Unsound.{zeros-refused}
 
--- the number of a call that answers a part
-
-part-number : (x : ℕ) (b : List ℕ) (k : Keeper) → x ≡ refusalOf (unless x (record { answer = part b; keeper = k }) k .answer)
-unfolding unless
-part-number zero b k = refl
-part-number (suc x) b k = refl
-
-look-number : (n : ℕ) (k : Keeper) → refusal (Look n) k ≡ refusalOf (look n k .answer)
-unfolding look
-look-number n k = part-number (refusal (Look n) k) _ k
-
-view-number : (m : List ℕ) → refusal TableView (onMedium m) ≡ refusalOf (tableView (onMedium m) .answer)
-unfolding tableView
-view-number m = part-number (refusal TableView (onMedium m)) _ (onMedium m)
-
-module _ (n : ℕ) (k : Keeper) (no : ℕ) (e : no ≡ refusalOf (look n k .answer)) (h : no ≡ 0 → ⊥) where
+module _ (n : ℕ) (k : Keeper) (no : ℕ) (e : no ≡ refusalOf (act (Look n) k .answer)) (h : no ≡ 0 → ⊥) where
   refused-place : 0 ≡ lookAt n k
   unfolding lookAt
-  refused-place = simp (ne-eqb (refusal (Look n) k) 0 (λ z. h (e ∙ sym (look-number n k) ∙ z)))
+  refused-place = simp (ne-eqb (refusal (Look n) k) 0 (λ z. h (e ∙ refusal-answered (Look n) k ∙ z)))
 
   look-refused : Looked n k no 0
   look-refused = record { answers = e; place = refused-place; shows = λ z. absurd (h z) }
@@ -51,15 +37,15 @@ module _ (n : ℕ) (xs m w : List ℕ) (t : Bool) (b : t ≡ isState xs) where
   pub looked-none : t ≡ false → Looked n (lentOver xs m [] [] [] w) 1 0
   looked-none p =
       subst (λ k. Looked n k 1 0) (lent-none xs m [] [] [] w t b p)
-      (look-refused n (stateless m [] [] [] w) 1 (sym (ap (λ o. refusalOf (o .answer)) (look-unsound m [] [] [] w n))) (λ z. omega arith))
+      (look-refused n (stateless m [] [] [] w) 1 (sym (ap (λ o. refusalOf (o .answer)) (zeros-refused (Look n) tt m [] [] [] w))) (λ z. omega arith))
 
-  module _ (p : t ≡ true) (s : code.State) (q : stateOf (s .numbers) (s .phase) ≡ seven xs) (no : ℕ) (e : no ≡ refusalOf (look n (handed s m [] [] [] w) .answer)) where
+  module _ (p : t ≡ true) (s : code.State) (q : stateOf (s .numbers) (s .phase) ≡ seven xs) (no : ℕ) (e : no ≡ refusalOf (act (Look n) (handed s m [] [] [] w) .answer)) where
     k : Keeper
     k = handed s m [] [] [] w
 
     number : no ≡ refusal (Look n) (lentTo (s .numbers) (s .phase) m [] [] [] w)
     unfolding handed
-    number = e ∙ sym (look-number n (handed s m [] [] [] w))
+    number = e ∙ refusal-answered (Look n) (handed s m [] [] [] w)
 
     pub looked-refused : (no ≡ 0 → ⊥) → Looked n (lentOver xs m [] [] [] w) no 0
     looked-refused h = subst (λ k. Looked n k no 0) (lent-state xs m [] [] [] w t b p s q) (look-refused n (handed s m [] [] [] w) no e h)
@@ -101,9 +87,9 @@ module _ (n : ℕ) (xs m w : List ℕ) (t : Bool) (b : t ≡ isState xs) where
 
 -- table view
 
-module _ (m : List ℕ) (no : ℕ) (e : no ≡ refusalOf (tableView (onMedium m) .answer)) where
+module _ (m : List ℕ) (no : ℕ) (e : no ≡ refusalOf (act TableView (onMedium m) .answer)) where
   number-view : no ≡ refusal TableView (onMedium m)
-  number-view = e ∙ sym (view-number m)
+  number-view = e ∙ refusal-answered TableView (onMedium m)
 
   pub viewed-refused : (no ≡ 0 → ⊥) → Viewed m no 0
   unfolding viewAt

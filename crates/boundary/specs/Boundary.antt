@@ -7,6 +7,8 @@ use lib.Dec.{eqb, leb}
 use lib.ListN.{length, getD}
 use Rattle.scope.specs.Bytes.{pick}
 use Rattle.scope.specs.Keeper.{Phase, idle, run, recovering, State, Keeper, Answer, Outcome, done, refused, cell, head, clean, stored, part, noState, refusalOf}
+use Rattle.scope.specs.Refusals.{Call, RecoveryStart}
+use Rattle.scope.specs.Calls.{act}
 
 abbrev pub phaseNo : Phase → ℕ
 phaseNo idle = 0
@@ -97,13 +99,13 @@ handedBack value state o =
     result (refusalOf (o .answer)) (value (o .answer)) state (k .medium) (k .current) (k .first) (k .last) (k .waiting)
 
 -- A CALL OVER THE BOUNDARY: the papers' call on the state in the slice, and its state back in the slice
-unfoldable pub over : (Answer → ℕ) → (Keeper → Outcome) → List ℕ → List ℕ → List ℕ → List ℕ → List ℕ → List ℕ → Result
-over value call state medium current first last waiting =
-    let o = call (lentOver state medium current first last waiting) in
+unfoldable pub over : (Answer → ℕ) → Call → List ℕ → List ℕ → List ℕ → List ℕ → List ℕ → List ℕ → Result
+over value a state medium current first last waiting =
+    let o = act a (lentOver state medium current first last waiting) in
     handedBack value (stateAfter state (o .keeper .state)) o
 
 -- Recovery start, over the boundary, only writes a state: a slice of another length than seven is refused with 1, and nothing is written.
-unfoldable pub startOver : (Keeper → Outcome) → List ℕ → List ℕ → List ℕ → List ℕ → List ℕ → List ℕ → Result
-startOver call state medium current first last waiting =
-    let o = call (record { medium = medium; current = current; first = first; last = last; waiting = waiting; state = noState }) in
+unfoldable pub startOver : List ℕ → List ℕ → List ℕ → List ℕ → List ℕ → List ℕ → Result
+startOver state medium current first last waiting =
+    let o = act RecoveryStart (record { medium = medium; current = current; first = first; last = last; waiting = waiting; state = noState }) in
     pick (eqb (length state) 7) (handedBack noValue (numbersOf (o .keeper .state)) o) (result 1 0 state medium current first last waiting)

@@ -1,7 +1,7 @@
 // Recovery: a start, then steps.
 ghost use mathlib.Core.Path.{_≡_};
 ghost use mathlib.Core.List.{[]};
-ghost use Rattle.scope.specs.Calls.{recoveryStart, recoveryStep};
+ghost use Rattle.scope.specs.Refusals.{RecoveryStep};
 ghost use Rattle.boundary.specs.Boundary.{stepValue, result, over, startOver};
 use crate::numbers::Held;
 use crate::numbers::number_of;
@@ -20,7 +20,7 @@ pub extern "C" fn keeper_recovery_start(
     waiting: &[u8],
     state: &mut [u32],
 ) -> u32
-    ensures { λ r. ⌜ result r 0 (now (state .exit)) (now (medium .entry)) (now (current .exit)) (now (first .exit)) (now (last .exit)) (now (waiting .entry)) ≡ startOver recoveryStart (now (state .entry)) (now (medium .entry)) (now (current .entry)) (now (first .entry)) (now (last .entry)) (now (waiting .entry)) ⌝ }
+    ensures { λ r. ⌜ result r 0 (now (state .exit)) (now (medium .entry)) (now (current .exit)) (now (first .exit)) (now (last .exit)) (now (waiting .entry)) ≡ startOver (now (state .entry)) (now (medium .entry)) (now (current .entry)) (now (first .entry)) (now (last .entry)) (now (waiting .entry)) ⌝ }
 {
     if state.len() != 7 {
         return 1;
@@ -39,7 +39,7 @@ pub extern "C" fn keeper_recovery_step(
     current: &[u64],
     value: &mut u64,
 ) -> u32
-    ensures { λ r. ⌜ result r (now (value .exit)) (now (state .exit)) (now (medium .exit)) (now (current .entry)) [] [] [] ≡ over stepValue recoveryStep (now (state .entry)) (now (medium .entry)) (now (current .entry)) [] [] [] ⌝ }
+    ensures { λ r. ⌜ result r (now (value .exit)) (now (state .exit)) (now (medium .exit)) (now (current .entry)) [] [] [] ≡ over stepValue RecoveryStep (now (state .entry)) (now (medium .entry)) (now (current .entry)) [] [] [] ⌝ }
 {
     let Held::State(s) = state_in(state) else {
         *value = 0;

@@ -2,7 +2,8 @@
 ghost use mathlib.Core.Path.{_≡_};
 ghost use mathlib.Core.List.{[]};
 ghost use Rattle.scope.specs.Keeper.{valueOf, refusalOf};
-ghost use Rattle.scope.specs.Calls.{format, force, writeBack, cut};
+ghost use Rattle.scope.specs.Refusals.{Format, Force, WriteBack, Cut};
+ghost use Rattle.scope.specs.Calls.{act};
 ghost use Rattle.medium.specs.Lent.{onMedium};
 ghost use Rattle.boundary.specs.Boundary.{noValue, backValue, result, over};
 use crate::numbers::Held;
@@ -16,8 +17,8 @@ use keeper::Answer;
 
 #[no_mangle]
 pub extern "C" fn keeper_format(medium: &mut [u8], cells: u32, slots: u32) -> u32
-    ensures number { λ r. ⌜ r ≡ refusalOf (format cells slots (onMedium (now (medium .entry))) .answer) ⌝ }
-    ensures bytes { λ _. ⌜ now (medium .exit) ≡ format cells slots (onMedium (now (medium .entry))) .keeper .medium ⌝ }
+    ensures number { λ r. ⌜ r ≡ refusalOf (act (Format cells slots) (onMedium (now (medium .entry))) .answer) ⌝ }
+    ensures bytes { λ _. ⌜ now (medium .exit) ≡ act (Format cells slots) (onMedium (now (medium .entry))) .keeper .medium ⌝ }
 {
     medium::head::format(medium, cells, slots)
 }
@@ -29,7 +30,7 @@ pub extern "C" fn keeper_force(
     waiting: &[u8],
     value: &mut u64,
 ) -> u32
-    ensures { λ r. ⌜ result r (now (value .exit)) (now (state .exit)) (now (medium .exit)) [] [] [] (now (waiting .entry)) ≡ over valueOf force (now (state .entry)) (now (medium .entry)) [] [] [] (now (waiting .entry)) ⌝ }
+    ensures { λ r. ⌜ result r (now (value .exit)) (now (state .exit)) (now (medium .exit)) [] [] [] (now (waiting .entry)) ≡ over valueOf Force (now (state .entry)) (now (medium .entry)) [] [] [] (now (waiting .entry)) ⌝ }
 {
     let Held::State(s) = state_in(state) else {
         *value = 0;
@@ -57,7 +58,7 @@ pub extern "C" fn keeper_write_back(
     last: &[u32],
     value: &mut u64,
 ) -> u32
-    ensures { λ r. ⌜ result r (now (value .exit)) (now (state .exit)) (now (medium .exit)) (now (current .entry)) (now (first .exit)) (now (last .entry)) [] ≡ over backValue (writeBack cell) (now (state .entry)) (now (medium .entry)) (now (current .entry)) (now (first .entry)) (now (last .entry)) [] ⌝ }
+    ensures { λ r. ⌜ result r (now (value .exit)) (now (state .exit)) (now (medium .exit)) (now (current .entry)) (now (first .exit)) (now (last .entry)) [] ≡ over backValue (WriteBack cell) (now (state .entry)) (now (medium .entry)) (now (current .entry)) (now (first .entry)) (now (last .entry)) [] ⌝ }
 {
     let Held::State(s) = state_in(state) else {
         *value = 0;
@@ -73,7 +74,7 @@ pub extern "C" fn keeper_write_back(
 
 #[no_mangle]
 pub extern "C" fn keeper_cut(state: &mut [u32], p: u32, medium: &mut [u8], first: &[u32]) -> u32
-    ensures { λ r. ⌜ result r 0 (now (state .exit)) (now (medium .exit)) [] (now (first .entry)) [] [] ≡ over noValue (cut p) (now (state .entry)) (now (medium .entry)) [] (now (first .entry)) [] [] ⌝ }
+    ensures { λ r. ⌜ result r 0 (now (state .exit)) (now (medium .exit)) [] (now (first .entry)) [] [] ≡ over noValue (Cut p) (now (state .entry)) (now (medium .entry)) [] (now (first .entry)) [] [] ⌝ }
 {
     let Held::State(s) = state_in(state) else {
         return 1;

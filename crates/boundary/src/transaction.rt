@@ -2,7 +2,7 @@
 ghost use mathlib.Core.Path.{_≡_};
 ghost use mathlib.Core.List.{[]};
 ghost use Rattle.scope.specs.Keeper.{valueOf};
-ghost use Rattle.scope.specs.Calls.{begin, read, write, commit, abort};
+ghost use Rattle.scope.specs.Refusals.{Begin, Read, Write, Commit, Abort};
 ghost use Rattle.boundary.specs.Boundary.{noValue, result, over};
 use crate::numbers::Held;
 use crate::numbers::number_of;
@@ -20,7 +20,7 @@ pub extern "C" fn keeper_begin(
     last: &mut [u32],
     waiting: &mut [u8],
 ) -> u32
-    ensures { λ r. ⌜ result r 0 (now (state .exit)) [] (now (current .exit)) (now (first .exit)) (now (last .exit)) (now (waiting .exit)) ≡ over noValue begin (now (state .entry)) [] (now (current .entry)) (now (first .entry)) (now (last .entry)) (now (waiting .entry)) ⌝ }
+    ensures { λ r. ⌜ result r 0 (now (state .exit)) [] (now (current .exit)) (now (first .exit)) (now (last .exit)) (now (waiting .exit)) ≡ over noValue Begin (now (state .entry)) [] (now (current .entry)) (now (first .entry)) (now (last .entry)) (now (waiting .entry)) ⌝ }
 {
     let Held::State(s) = state_in(state) else {
         return 1;
@@ -34,7 +34,7 @@ pub extern "C" fn keeper_begin(
 
 #[no_mangle]
 pub extern "C" fn keeper_read(state: &mut [u32], cell: u32, current: &[u64], value: &mut u64) -> u32
-    ensures { λ r. ⌜ result r (now (value .exit)) (now (state .exit)) [] (now (current .entry)) [] [] [] ≡ over valueOf (read cell) (now (state .entry)) [] (now (current .entry)) [] [] [] ⌝ }
+    ensures { λ r. ⌜ result r (now (value .exit)) (now (state .exit)) [] (now (current .entry)) [] [] [] ≡ over valueOf (Read cell) (now (state .entry)) [] (now (current .entry)) [] [] [] ⌝ }
 {
     let Held::State(s) = state_in(state) else {
         *value = 0;
@@ -58,7 +58,7 @@ pub extern "C" fn keeper_write(
     last: &mut [u32],
     waiting: &mut [u8],
 ) -> u32
-    ensures { λ r. ⌜ result r 0 (now (state .exit)) [] (now (current .exit)) (now (first .exit)) (now (last .exit)) (now (waiting .exit)) ≡ over noValue (write cell new) (now (state .entry)) [] (now (current .entry)) (now (first .entry)) (now (last .entry)) (now (waiting .entry)) ⌝ }
+    ensures { λ r. ⌜ result r 0 (now (state .exit)) [] (now (current .exit)) (now (first .exit)) (now (last .exit)) (now (waiting .exit)) ≡ over noValue (Write cell new) (now (state .entry)) [] (now (current .entry)) (now (first .entry)) (now (last .entry)) (now (waiting .entry)) ⌝ }
 {
     let Held::State(s) = state_in(state) else {
         return 1;
@@ -72,7 +72,7 @@ pub extern "C" fn keeper_write(
 
 #[no_mangle]
 pub extern "C" fn keeper_commit(state: &mut [u32], waiting: &mut [u8], value: &mut u64) -> u32
-    ensures { λ r. ⌜ result r (now (value .exit)) (now (state .exit)) [] [] [] [] (now (waiting .exit)) ≡ over valueOf commit (now (state .entry)) [] [] [] [] (now (waiting .entry)) ⌝ }
+    ensures { λ r. ⌜ result r (now (value .exit)) (now (state .exit)) [] [] [] [] (now (waiting .exit)) ≡ over valueOf Commit (now (state .entry)) [] [] [] [] (now (waiting .entry)) ⌝ }
 {
     let Held::State(s) = state_in(state) else {
         *value = 0;
@@ -98,7 +98,7 @@ pub extern "C" fn keeper_abort(
     last: &mut [u32],
     waiting: &mut [u8],
 ) -> u32
-    ensures { λ r. ⌜ result r 0 (now (state .exit)) [] (now (current .exit)) (now (first .exit)) (now (last .exit)) (now (waiting .exit)) ≡ over noValue abort (now (state .entry)) [] (now (current .entry)) (now (first .entry)) (now (last .entry)) (now (waiting .entry)) ⌝ }
+    ensures { λ r. ⌜ result r 0 (now (state .exit)) [] (now (current .exit)) (now (first .exit)) (now (last .exit)) (now (waiting .exit)) ≡ over noValue Abort (now (state .entry)) [] (now (current .entry)) (now (first .entry)) (now (last .entry)) (now (waiting .entry)) ⌝ }
 {
     let Held::State(s) = state_in(state) else {
         return 1;

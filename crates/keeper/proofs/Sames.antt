@@ -4,7 +4,7 @@ use Prim.Native.Nat.{ℕ}
 use mathlib.Core.Path.{_≡_, refl, sym, ap, _∙_}
 use mathlib.Core.List.{List}
 use Rattle.scope.specs.Keeper.{Outcome, Answer, done, refused, cell, head, clean, stored, part}
-use Rattle.state.specs.Lent.{left, lentTo}
+use Rattle.state.specs.Lent.{left}
 use Rattle.state.proofs.Sames.{Same, left-same}
 use Rattle.recovery.specs.Answers.{stepped}
 use Rattle.recovery.proofs.Sames.{step-same}

@@ -8,7 +8,7 @@ use Rattle.scope.specs.Bytes.{pick, put}
 use Rattle.scope.specs.Row.{update, abortEntry, rowBytes}
 use Rattle.scope.specs.Keeper.{Keeper, Outcome, Phase, idle, run, done, isRun, rowAt, withState, withWaiting, madeTo, assign, append}
 use Rattle.scope.specs.Refusals.{Begin, Read, Write, Commit, Abort, refusal}
-use Rattle.scope.specs.Calls.{begin, read, write, commit, abort, rolledBack}
+use Rattle.scope.specs.Calls.{rolledBack, act, performed}
 use Rattle.state.specs.State.{phaseOf, stateOf}
 use Rattle.state.specs.declared.Numbers.{Numbers}
 use Rattle.state.specs.declared.Phase as code
@@ -22,59 +22,43 @@ use Rattle.state.specs.Lent.{lentTo}
 use Rattle.keeper.specs.Answers.{answered, handed, leaves}
 use Rattle.keeper.specs.declared.State.{State}
 use Rattle.keeper.specs.declared.Outcome as result
-use Rattle.keeper.specs.declared.Answer.the-variants.{Done, Refused}
+use Rattle.keeper.specs.declared.Answer.the-variants.{Done}
 use Rattle.scope.proofs.Refusals.{numbered-done}
-use Rattle.keeper.proofs.Unless.{refused-leaves}
 
 module _ (s : State) (r : result.Outcome) (number : ℕ) where
   -- read
 
   module _ (cell : ℕ) (current : List ℕ) (e : number ≡ refusal (Read cell) (lentTo (s .numbers) (s .phase) [] current [] [] [])) where
-    pub read-refused : r ≡ record { answer = Refused number; state = s } → (number ≡ 0 → ⊥)
-        → leaves (answered (r .answer)) (r .state) [] current [] [] [] ≡ read cell (handed s [] current [] [] [])
-    unfolding read
-    read-refused q h = refused-leaves (Read cell) s [] current [] [] [] _ r number e q h
-
     pub read-done : (at v : ℕ) → at ≡ cell → v ≡ getD current at 0 → r ≡ record { answer = Done v; state = record { numbers = s .numbers; phase = s .phase } } → number ≡ 0
-        → leaves (answered (r .answer)) (r .state) [] current [] [] [] ≡ read cell (handed s [] current [] [] [])
-    unfolding read leaves handed lentTo
-    read-done at v p q f z = rw (f, q, p) (numbered-done (Read cell) (lentTo (s .numbers) (s .phase) [] current [] [] []) _ number e z)
+        → leaves (answered (r .answer)) (r .state) [] current [] [] [] ≡ act (Read cell) (handed s [] current [] [] [])
+    unfolding performed leaves handed lentTo
+    read-done at v p q f z = rw (f, q, p) (numbered-done (Read cell) (lentTo (s .numbers) (s .phase) [] current [] [] []) number e z)
 
   -- commit
 
   module _ (waiting : List ℕ) (e : number ≡ refusal Commit (lentTo (s .numbers) (s .phase) [] [] [] [] waiting)) where
-    pub commit-refused : r ≡ record { answer = Refused number; state = s } → (number ≡ 0 → ⊥)
-        → leaves (answered (r .answer)) (r .state) [] [] [] [] waiting ≡ commit (handed s [] [] [] [] waiting)
-    unfolding commit
-    commit-refused q h = refused-leaves Commit s [] [] [] [] waiting _ r number e q h
-
     pub commit-done : (n : ℕ) (w : List ℕ) (m : Numbers) → n ≡ s .numbers .l + 1 → w ≡ put waiting (rowAt (s .numbers .slots) n) (rowBytes n (entry what.Commit))
         → m ≡ record { cells = s .numbers .cells; slots = s .numbers .slots; h = s .numbers .h; f = s .numbers .f; l = n; o = n }
         → r ≡ record { answer = Done n; state = record { numbers = m; phase = Idle } } → number ≡ 0
-        → leaves (answered (r .answer)) (r .state) [] [] [] [] w ≡ commit (handed s [] [] [] [] waiting)
-    unfolding commit leaves handed lentTo stateOf withState withWaiting madeTo append
-    commit-done n w m p q g f z = rw (f, g, q, p) (numbered-done Commit (lentTo (s .numbers) (s .phase) [] [] [] [] waiting) _ number e z)
+        → leaves (answered (r .answer)) (r .state) [] [] [] [] w ≡ act Commit (handed s [] [] [] [] waiting)
+    unfolding performed leaves handed lentTo stateOf withState withWaiting madeTo append
+    commit-done n w m p q g f z = rw (f, g, q, p) (numbered-done Commit (lentTo (s .numbers) (s .phase) [] [] [] [] waiting) number e z)
 
   -- write, abort and begin
 
   module _ (current first last waiting : List ℕ) where
     module _ (cell value : ℕ) (e : (v : ℕ) → number ≡ refusal (Write cell v) (lentTo (s .numbers) (s .phase) [] current first last waiting)) where
-      pub write-refused : r ≡ record { answer = Refused number; state = s } → (number ≡ 0 → ⊥)
-          → leaves (answered (r .answer)) (r .state) [] current first last waiting ≡ write cell value (handed s [] current first last waiting)
-      unfolding write
-      write-refused q h = refused-leaves (Write cell value) s [] current first last waiting _ r number (e value) q h
-
       pub write-done : (n at old : ℕ) (c f l w : List ℕ) (m : Numbers) → n ≡ s .numbers .l + 1 → at ≡ cell → old ≡ getD current at 0
           → w ≡ put waiting (rowAt (s .numbers .slots) n) (rowBytes n (entry (what.Update cell old value))) → desk c f l ≡ assigned n cell value (desk current first last)
           → m ≡ record { cells = s .numbers .cells; slots = s .numbers .slots; h = s .numbers .h; f = s .numbers .f; l = n; o = s .numbers .o }
           → r ≡ record { answer = Done 0; state = record { numbers = m; phase = Run } } → number ≡ 0
-          → leaves (answered (r .answer)) (r .state) [] c f l w ≡ write cell value (handed s [] current first last waiting)
-      unfolding write leaves handed lentTo stateOf withState withWaiting madeTo append assign assigned desk
+          → leaves (answered (r .answer)) (r .state) [] c f l w ≡ act (Write cell value) (handed s [] current first last waiting)
+      unfolding performed leaves handed lentTo stateOf withState withWaiting madeTo append assign assigned desk
       write-done n at old c f l w m p a o q d g x z =
           rw (x, g, q, o, a, p)
           (ap (λ (y : Desk). record { answer = done 0; keeper = lentTo (record { cells = s .numbers .cells; slots = s .numbers .slots; h = s .numbers .h; f = s .numbers .f; l = s .numbers .l + 1; o = s .numbers .o }) Run [] (y .current) (y .first) (y .last) (put waiting (rowAt (s .numbers .slots) (s .numbers .l + 1)) (rowBytes (s .numbers .l + 1) (update cell (getD current cell 0) value))) })
           (d ∙ ap (λ i. assigned i cell value (desk current first last)) p)
-          ∙ numbered-done (Write cell value) (lentTo (s .numbers) (s .phase) [] current first last waiting) _ number (e value) z)
+          ∙ numbered-done (Write cell value) (lentTo (s .numbers) (s .phase) [] current first last waiting) number (e value) z)
 
     -- the abort entry appended and the rows rolled back
     pub roll-done : (next : code.Phase) (n : ℕ) (c f l w : List ℕ) (m : Numbers) → n ≡ s .numbers .l + 1
@@ -96,48 +80,38 @@ module _ (s : State) (r : result.Outcome) (number : ℕ) where
         ∙ ap (λ (y : Keeper). record { answer = done 0; keeper = withState to y }) (rollback-desk j i (s .numbers .l - s .numbers .o) (s .numbers .l) (desk current first last)))
 
     module _ (e : number ≡ refusal Abort (lentTo (s .numbers) (s .phase) [] current first last waiting)) where
-      pub abort-refused : r ≡ record { answer = Refused number; state = s } → (number ≡ 0 → ⊥)
-          → leaves (answered (r .answer)) (r .state) [] current first last waiting ≡ abort (handed s [] current first last waiting)
-      unfolding abort
-      abort-refused q h = refused-leaves Abort s [] current first last waiting _ r number e q h
-
       module _ (z : number ≡ 0) (b : Bool) (bb : b ≡ isRun (phaseOf (s .phase))) where
         pub abort-run : (o : Outcome) → b ≡ true → o ≡ record { answer = done 0; keeper = rolledBack idle (handed s [] current first last waiting) }
-            → o ≡ abort (handed s [] current first last waiting)
-        unfolding abort handed lentTo stateOf
+            → o ≡ act Abort (handed s [] current first last waiting)
+        unfolding performed handed lentTo stateOf
         abort-run o y q =
             q ∙ ap (λ x. record { answer = done 0; keeper = pick x (rolledBack idle (handed s [] current first last waiting)) (handed s [] current first last waiting) }) (sym y ∙ bb)
-            ∙ numbered-done Abort (lentTo (s .numbers) (s .phase) [] current first last waiting) _ number e z
+            ∙ numbered-done Abort (lentTo (s .numbers) (s .phase) [] current first last waiting) number e z
 
         pub abort-idle : b ≡ false → r ≡ record { answer = Done 0; state = record { numbers = s .numbers; phase = s .phase } }
-            → leaves (answered (r .answer)) (r .state) [] current first last waiting ≡ abort (handed s [] current first last waiting)
-        unfolding abort leaves handed lentTo stateOf
+            → leaves (answered (r .answer)) (r .state) [] current first last waiting ≡ act Abort (handed s [] current first last waiting)
+        unfolding performed leaves handed lentTo stateOf
         abort-idle y q =
             rw q (ap (λ x. record { answer = done 0; keeper = pick x (rolledBack idle (handed s [] current first last waiting)) (handed s [] current first last waiting) }) (sym y ∙ bb)
-            ∙ numbered-done Abort (lentTo (s .numbers) (s .phase) [] current first last waiting) _ number e z)
+            ∙ numbered-done Abort (lentTo (s .numbers) (s .phase) [] current first last waiting) number e z)
 
     module _ (e : number ≡ refusal Begin (lentTo (s .numbers) (s .phase) [] current first last waiting)) where
-      pub begin-refused : r ≡ record { answer = Refused number; state = s } → (number ≡ 0 → ⊥)
-          → leaves (answered (r .answer)) (r .state) [] current first last waiting ≡ begin (handed s [] current first last waiting)
-      unfolding begin
-      begin-refused q h = refused-leaves Begin s [] current first last waiting _ r number e q h
-
       module _ (z : number ≡ 0) (b : Bool) (bb : b ≡ isRun (phaseOf (s .phase))) where
         opened : Keeper
         opened = withState (madeTo (s .numbers .l) (s .numbers .l) run (stateOf (s .numbers) (s .phase))) (handed s [] current first last waiting)
 
         pub begin-run : (o : Outcome) → b ≡ true → o ≡ record { answer = done 0; keeper = rolledBack run (handed s [] current first last waiting) }
-            → o ≡ begin (handed s [] current first last waiting)
-        unfolding begin handed lentTo stateOf opened
+            → o ≡ act Begin (handed s [] current first last waiting)
+        unfolding performed handed lentTo stateOf opened
         begin-run o y q =
             q ∙ ap (λ x. record { answer = done 0; keeper = pick x (rolledBack run (handed s [] current first last waiting)) opened }) (sym y ∙ bb)
-            ∙ numbered-done Begin (lentTo (s .numbers) (s .phase) [] current first last waiting) _ number e z
+            ∙ numbered-done Begin (lentTo (s .numbers) (s .phase) [] current first last waiting) number e z
 
         pub begin-idle : (m : Numbers) → b ≡ false
             → m ≡ record { cells = s .numbers .cells; slots = s .numbers .slots; h = s .numbers .h; f = s .numbers .f; l = s .numbers .l; o = s .numbers .l }
             → r ≡ record { answer = Done 0; state = record { numbers = m; phase = Run } }
-            → leaves (answered (r .answer)) (r .state) [] current first last waiting ≡ begin (handed s [] current first last waiting)
-        unfolding begin leaves handed lentTo stateOf opened withState madeTo
+            → leaves (answered (r .answer)) (r .state) [] current first last waiting ≡ act Begin (handed s [] current first last waiting)
+        unfolding performed leaves handed lentTo stateOf opened withState madeTo
         begin-idle m y g q =
             rw (q, g) (ap (λ x. record { answer = done 0; keeper = pick x (rolledBack run (handed s [] current first last waiting)) opened }) (sym y ∙ bb)
-            ∙ numbered-done Begin (lentTo (s .numbers) (s .phase) [] current first last waiting) _ number e z)
+            ∙ numbered-done Begin (lentTo (s .numbers) (s .phase) [] current first last waiting) number e z)

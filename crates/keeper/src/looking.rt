@@ -2,7 +2,8 @@
 ghost use mathlib.Core.Path.{_≡_};
 ghost use mathlib.Core.List.{[]};
 ghost use Rattle.scope.specs.Keeper.{refusalOf, partOf};
-ghost use Rattle.scope.specs.Calls.{look};
+ghost use Rattle.scope.specs.Refusals.{Look};
+ghost use Rattle.scope.specs.Calls.{act};
 ghost use Rattle.keeper.specs.Answers.{handed};
 use crate::State;
 use medium::layout::row_at;
@@ -10,7 +11,7 @@ use medium::layout::row_at;
 impl State {
     // The number that a look with these arguments has: 0, or 1, 10, 11.
     pub fn look_number(self, n: u32, medium: &[u8], waiting: &[u8]) -> u32
-        ensures { λ r. ⌜ r ≡ refusalOf (look n (handed self (now (medium .entry)) [] [] [] (now (waiting .entry))) .answer) ⌝ }
+        ensures { λ r. ⌜ r ≡ refusalOf (act (Look n) (handed self (now (medium .entry)) [] [] [] (now (waiting .entry))) .answer) ⌝ }
     {
         let numbers = self.numbers;
         let phase = self.phase;
@@ -20,7 +21,7 @@ impl State {
     // Look: entry n's 32 bytes, a part of the medium when n <= f, else of the waiting rows; an empty part where `look_number` refuses.
     // Costs no byte.
     pub fn look<'a>(self, n: u32, medium: &'a [u8], waiting: &'a [u8]) -> &'a [u8]
-        ensures { λ r. ⌜ now r ≡ partOf (look n (handed self (now (medium .entry)) [] [] [] (now (waiting .entry))) .answer) ⌝ }
+        ensures { λ r. ⌜ now r ≡ partOf (act (Look n) (handed self (now (medium .entry)) [] [] [] (now (waiting .entry))) .answer) ⌝ }
     {
         let numbers = self.numbers;
         let phase = self.phase;

@@ -1,7 +1,8 @@
 // Recovery, by the calls of the crate `recovery`.
 ghost use mathlib.Core.Path.{_≡_};
 ghost use mathlib.Core.List.{[]};
-ghost use Rattle.scope.specs.Calls.{recoveryStart, recoveryStep};
+ghost use Rattle.scope.specs.Refusals.{RecoveryStart, RecoveryStep};
+ghost use Rattle.scope.specs.Calls.{act};
 ghost use Rattle.state.specs.Lent.{stateless};
 ghost use Rattle.recovery.specs.Answers.{numbered, stepped};
 ghost use Rattle.keeper.specs.Answers.{answered, handed, leaves};
@@ -30,7 +31,7 @@ impl State {
         last: &mut [u32],
         waiting: &[u8],
     ) -> Outcome
-        ensures { λ r. ⌜ leaves (answered (r .answer)) (r .state) (now (medium .entry)) (now (current .exit)) (now (first .exit)) (now (last .exit)) (now (waiting .entry)) ≡ recoveryStart (stateless (now (medium .entry)) (now (current .entry)) (now (first .entry)) (now (last .entry)) (now (waiting .entry))) ⌝ }
+        ensures { λ r. ⌜ leaves (answered (r .answer)) (r .state) (now (medium .entry)) (now (current .exit)) (now (first .exit)) (now (last .exit)) (now (waiting .entry)) ≡ act RecoveryStart (stateless (now (medium .entry)) (now (current .entry)) (now (first .entry)) (now (last .entry)) (now (waiting .entry))) ⌝ }
     {
         let start = recovery::recovery_start(medium, current, first, last, waiting);
         let numbers = start.numbers;
@@ -44,7 +45,7 @@ impl State {
     // Recovery step: the lowest cell whose table value differs from the current one is stored; if none, the head with h = l, where h < l;
     // else nothing. Refuses 1, 10.
     pub fn recovery_step(self, medium: &mut [u8], current: &[u64]) -> Stepped
-        ensures { λ r. ⌜ leaves (stepped (r .answer)) (r .state) (now (medium .exit)) (now (current .entry)) [] [] [] ≡ recoveryStep (handed self (now (medium .entry)) (now (current .entry)) [] [] []) ⌝ }
+        ensures { λ r. ⌜ leaves (stepped (r .answer)) (r .state) (now (medium .exit)) (now (current .entry)) [] [] [] ≡ act RecoveryStep (handed self (now (medium .entry)) (now (current .entry)) [] [] []) ⌝ }
     {
         let numbers = self.numbers;
         let phase = self.phase;

@@ -2,7 +2,8 @@
 ghost use mathlib.Core.Path.{_≡_};
 ghost use mathlib.Core.List.{[]};
 ghost use Prim.Native.Nat.{_+_};
-ghost use Rattle.scope.specs.Calls.{force, writeBack, cut};
+ghost use Rattle.scope.specs.Refusals.{Force, WriteBack, Cut};
+ghost use Rattle.scope.specs.Calls.{act};
 ghost use Rattle.keeper.specs.Answers.{answered, writtenBack, handed, leaves};
 use crate::Back;
 use crate::Outcome;
@@ -19,7 +20,7 @@ impl State {
     // Force: stores entry f+1 from the waiting rows and answers its number; with f = l it stores nothing and answers 0.
     // Refuses 1, 10, 7. Costs one row; stores that row.
     pub fn force(self, medium: &mut [u8], waiting: &[u8]) -> Outcome
-        ensures { λ r. ⌜ leaves (answered (r .answer)) (r .state) (now (medium .exit)) [] [] [] (now (waiting .entry)) ≡ force (handed self (now (medium .entry)) [] [] [] (now (waiting .entry))) ⌝ }
+        ensures { λ r. ⌜ leaves (answered (r .answer)) (r .state) (now (medium .exit)) [] [] [] (now (waiting .entry)) ≡ act Force (handed self (now (medium .entry)) [] [] [] (now (waiting .entry))) ⌝ }
     {
         let numbers = self.numbers;
         let phase = self.phase;
@@ -53,7 +54,7 @@ impl State {
         first: &mut [u32],
         last: &[u32],
     ) -> WrittenBack
-        ensures { λ r. ⌜ leaves (writtenBack (r .answer)) (r .state) (now (medium .exit)) (now (current .entry)) (now (first .exit)) (now (last .entry)) [] ≡ writeBack cell (handed self (now (medium .entry)) (now (current .entry)) (now (first .entry)) (now (last .entry)) []) ⌝ }
+        ensures { λ r. ⌜ leaves (writtenBack (r .answer)) (r .state) (now (medium .exit)) (now (current .entry)) (now (first .exit)) (now (last .entry)) [] ≡ act (WriteBack cell) (handed self (now (medium .entry)) (now (current .entry)) (now (first .entry)) (now (last .entry)) []) ⌝ }
     {
         let numbers = self.numbers;
         let phase = self.phase;
@@ -81,7 +82,7 @@ impl State {
 
     // Cut to p: the head is stored with h = p; p may be h. Refuses 1, 10, 9, 7, 9. Goes once over the cells' `first`; stores the head.
     pub fn cut(self, p: u32, medium: &mut [u8], first: &[u32]) -> Outcome
-        ensures { λ r. ⌜ leaves (answered (r .answer)) (r .state) (now (medium .exit)) [] (now (first .entry)) [] [] ≡ cut p (handed self (now (medium .entry)) [] (now (first .entry)) [] []) ⌝ }
+        ensures { λ r. ⌜ leaves (answered (r .answer)) (r .state) (now (medium .exit)) [] (now (first .entry)) [] [] ≡ act (Cut p) (handed self (now (medium .entry)) [] (now (first .entry)) [] []) ⌝ }
     {
         let numbers = self.numbers;
         let phase = self.phase;

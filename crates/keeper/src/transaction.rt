@@ -2,8 +2,8 @@
 ghost use mathlib.Core.Path.{_≡_};
 ghost use mathlib.Core.List.{[]};
 ghost use Prim.Native.Nat.{_+_};
-ghost use Rattle.scope.specs.Calls.{begin, read, write, commit, abort, rolledBack};
-ghost use Rattle.scope.specs.Refusals.{refusal, Commit};
+ghost use Rattle.scope.specs.Calls.{rolledBack, act};
+ghost use Rattle.scope.specs.Refusals.{Begin, Read, Write, Commit, Abort};
 ghost use Rattle.scope.specs.Keeper.{done};
 ghost use Rattle.state.specs.State.{phaseOf};
 ghost use Rattle.keeper.specs.Answers.{answered, handed, leaves};
@@ -21,7 +21,7 @@ use state::is_run;
 impl State {
     // Read: answers the cell's current value. Refuses 1, 10, 3, 4. Costs one cell.
     pub fn read(self, cell: u32, current: &[u64]) -> Outcome
-        ensures { λ r. ⌜ leaves (answered (r .answer)) (r .state) [] (now (current .entry)) [] [] [] ≡ read cell (handed self [] (now (current .entry)) [] [] []) ⌝ }
+        ensures { λ r. ⌜ leaves (answered (r .answer)) (r .state) [] (now (current .entry)) [] [] [] ≡ act (Read cell) (handed self [] (now (current .entry)) [] [] []) ⌝ }
     {
         let numbers = self.numbers;
         let phase = self.phase;
@@ -44,7 +44,7 @@ impl State {
         last: &mut [u32],
         waiting: &mut [u8],
     ) -> Outcome
-        ensures { λ r. ⌜ leaves (answered (r .answer)) (r .state) [] (now (current .exit)) (now (first .exit)) (now (last .exit)) (now (waiting .exit)) ≡ write cell value (handed self [] (now (current .entry)) (now (first .entry)) (now (last .entry)) (now (waiting .entry))) ⌝ }
+        ensures { λ r. ⌜ leaves (answered (r .answer)) (r .state) [] (now (current .exit)) (now (first .exit)) (now (last .exit)) (now (waiting .exit)) ≡ act (Write cell value) (handed self [] (now (current .entry)) (now (first .entry)) (now (last .entry)) (now (waiting .entry))) ⌝ }
     {
         let numbers = self.numbers;
         let phase = self.phase;
@@ -72,7 +72,7 @@ impl State {
     // Commit: appends the commit entry and answers its number, l+1; the transaction is durable once force has stored that entry.
     // Refuses 1, 10, 3. Costs one row.
     pub fn commit(self, waiting: &mut [u8]) -> Outcome
-        ensures { λ r. ⌜ leaves (answered (r .answer)) (r .state) [] [] [] [] (now (waiting .exit)) ≡ commit (handed self [] [] [] [] (now (waiting .entry))) ⌝ }
+        ensures { λ r. ⌜ leaves (answered (r .answer)) (r .state) [] [] [] [] (now (waiting .exit)) ≡ act Commit (handed self [] [] [] [] (now (waiting .entry))) ⌝ }
     {
         let numbers = self.numbers;
         let phase = self.phase;
@@ -94,7 +94,7 @@ impl State {
         last: &mut [u32],
         waiting: &mut [u8],
     ) -> Outcome
-        ensures { λ r. ⌜ leaves (answered (r .answer)) (r .state) [] (now (current .exit)) (now (first .exit)) (now (last .exit)) (now (waiting .exit)) ≡ abort (handed self [] (now (current .entry)) (now (first .entry)) (now (last .entry)) (now (waiting .entry))) ⌝ }
+        ensures { λ r. ⌜ leaves (answered (r .answer)) (r .state) [] (now (current .exit)) (now (first .exit)) (now (last .exit)) (now (waiting .exit)) ≡ act Abort (handed self [] (now (current .entry)) (now (first .entry)) (now (last .entry)) (now (waiting .entry))) ⌝ }
     {
         let numbers = self.numbers;
         let phase = self.phase;
@@ -118,7 +118,7 @@ impl State {
         last: &mut [u32],
         waiting: &mut [u8],
     ) -> Outcome
-        ensures { λ r. ⌜ leaves (answered (r .answer)) (r .state) [] (now (current .exit)) (now (first .exit)) (now (last .exit)) (now (waiting .exit)) ≡ begin (handed self [] (now (current .entry)) (now (first .entry)) (now (last .entry)) (now (waiting .entry))) ⌝ }
+        ensures { λ r. ⌜ leaves (answered (r .answer)) (r .state) [] (now (current .exit)) (now (first .exit)) (now (last .exit)) (now (waiting .exit)) ≡ act Begin (handed self [] (now (current .entry)) (now (first .entry)) (now (last .entry)) (now (waiting .entry))) ⌝ }
     {
         let numbers = self.numbers;
         let phase = self.phase;

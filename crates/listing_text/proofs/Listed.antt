@@ -34,7 +34,7 @@ pick-either P true x y p q = p
 pick-either P false x y p q = q
 
 step-sizes : (k : Keeper) → SameSizes (recoveryStep k .keeper) k
-unfolding recoveryStep unless stepAt storeCell storeHead withMedium withState droppedTo madeTo
+unfolding recoveryStep stepAt storeCell storeHead withMedium withState droppedTo madeTo
 step-sizes k = go (refusal RecoveryStep k) (differing (tableOf (k .state .cells) (k .state .slots) (k .medium)) (k .current) 0)
   where
     go : (x : ℕ) (d : Option ℕ) → SameSizes (unless x (stepAt d k) k .keeper) k

@@ -77,7 +77,7 @@ module _ (g : Keeper) where
 -- without a state, no step changes anything
 
 step-none : (k : Keeper) → k .state ≡ noState → recoveryStep k ≡ record { answer = refused 1; keeper = k }
-unfolding recoveryStep unless refusal tests unfit sound inRange noState
+unfolding recoveryStep refusal tests unfit sound inRange noState
 step-none k e = let z : sound (k .state) ≡ false = ap sound e in simp z
 
 steps-none : (left : ℕ) (k : Keeper) → k .state ≡ noState → steps left k ≡ k

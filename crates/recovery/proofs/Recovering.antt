@@ -11,8 +11,8 @@ use lib.ListN.{length, getD, replicate}
 use Rattle.scope.specs.Bytes.{pick, bytesOf, numberAt, put}
 use Rattle.scope.specs.Keeper.{Answer, recovering, done, refused, cell, head, clean, inRange, mediumLength, cellAt, headBytes, headOk, noState, withState, withMedium, madeTo, droppedTo, storeCell, storeHead, isRecovering, sound}
 use Rattle.scope.specs.Recovery.{journal, replay, tableOf, differing}
-use Rattle.scope.specs.Refusals.{RecoveryStep, isMedium, isCells, lent, lentStart, unfit, tests, refusal}
-use Rattle.scope.specs.Calls.{startWith, unlessStart, recoveryStart, stepAt, recoveryStep}
+use Rattle.scope.specs.Refusals.{RecoveryStart, RecoveryStep, isMedium, isCells, lent, lentStart, unfit, tests, refusal}
+use Rattle.scope.specs.Calls.{started, stepAt, performed, act}
 use Rattle.scope.proofs.Refusals.{refusal-none, numbered-refused, numbered-done}
 use Rattle.scope.proofs.Sound.{fit-sound, fit-lent}
 use Rattle.medium.specs.Lent.{found}
@@ -86,8 +86,8 @@ module _ (m current first last waiting : List ℕ) where
 
   module _ (t : Bool) (e : t ≡ Fit) where
     pub start-unfit : t ≡ false → (r : Started) → r ≡ record { number = 1; numbers = record { cells = 0; slots = 0; h = 0; f = 0; l = 0; o = 0 }; phase = Idle }
-        → left (numbered (r .number)) (r .numbers) (r .phase) m current first last waiting ≡ recoveryStart (stateless m current first last waiting)
-    unfolding left lentTo stateOf stateless recoveryStart refusal tests unlessStart withState noState
+        → left (numbered (r .number)) (r .numbers) (r .phase) m current first last waiting ≡ act RecoveryStart (stateless m current first last waiting)
+    unfolding left lentTo stateOf stateless act refusal tests withState noState
     start-unfit p r q = ap (λ x. left (numbered (x .number)) (x .numbers) (x .phase) m current first last waiting) q ∙ simp (← e, p)
 
     module _ (p : t ≡ true) where
@@ -104,8 +104,8 @@ module _ (m current first last waiting : List ℕ) where
 
         pub start-malformed : u ≡ Malformed → (r : Started)
             → r ≡ record { number = 2; numbers = record { cells = 0; slots = 0; h = 0; f = 0; l = 0; o = 0 }; phase = Idle }
-            → left (numbered (r .number)) (r .numbers) (r .phase) m current first last waiting ≡ recoveryStart (stateless m current first last waiting)
-        unfolding left lentTo stateOf stateless recoveryStart refusal tests unlessStart withState noState
+            → left (numbered (r .number)) (r .numbers) (r .phase) m current first last waiting ≡ act RecoveryStart (stateless m current first last waiting)
+        unfolding left lentTo stateOf stateless act refusal tests withState noState
         start-malformed g r q =
             let j = last-none m (numberAt 4 0 m) (numberAt 4 4 m) (numberAt 4 8 m) (counted ∙ ap upto g) in
             ap (λ x. left (numbered (x .number)) (x .numbers) (x .phase) m current first last waiting) q ∙ simp (← e, p, j)
@@ -117,8 +117,9 @@ module _ (m current first last waiting : List ℕ) where
           read : Last m (numberAt 4 0 m) (numberAt 4 4 m) (numberAt 4 8 m) x
           read = last-some m (numberAt 4 0 m) (numberAt 4 4 m) (numberAt 4 8 m) x (counted ∙ ap upto g)
 
-          accepted : startWith (numberAt 4 0 m) (numberAt 4 4 m) (numberAt 4 8 m) (some (read .entries)) (stateless m current first last waiting) ≡ recoveryStart (stateless m current first last waiting)
-          unfolding recoveryStart refusal tests unlessStart stateless
+          accepted : record { answer = done 0; keeper = started (numberAt 4 0 m) (numberAt 4 4 m) (numberAt 4 8 m) (read .entries) (stateless m current first last waiting) }
+              ≡ act RecoveryStart (stateless m current first last waiting)
+          unfolding act performed refusal tests stateless
           accepted = simp (← e, p, read .read)
 
           module _ (all : Bool) (loaded current′ : List ℕ) (ql : loaded ≡ tableOf (length current) c m) (qr : replayed all current′ ≡ replayFrom (entryIn m 32 c n) (x - h) h h loaded) where
@@ -138,8 +139,8 @@ module _ (m current first last waiting : List ℕ) where
 
             pub start-done : (first′ last′ : List ℕ) → first′ ≡ replicate (length first) 0 → last′ ≡ replicate (length last) 0 → all ≡ true → (r : Started)
                 → r ≡ record { number = 0; numbers = record { cells = n; slots = c; h = h; f = x; l = x; o = x }; phase = Recovering }
-                → left (numbered (r .number)) (r .numbers) (r .phase) m current′ first′ last′ waiting ≡ recoveryStart (stateless m current first last waiting)
-            unfolding left lentTo stateOf stateless startWith
+                → left (numbered (r .number)) (r .numbers) (r .phase) m current′ first′ last′ waiting ≡ act RecoveryStart (stateless m current first last waiting)
+            unfolding left lentTo stateOf stateless
             start-done first′ last′ qf qg ok r q =
                 let e : _≡_ {A = Option (List ℕ)} (some current′) (some (replay (read .entries) [] (tableOf (numberAt 4 0 m) (numberAt 4 4 m) m))) =
                 ap (λ b. replayed b current′) (sym ok) ∙ replay-is in
@@ -200,9 +201,9 @@ pub record Stepping (n : Numbers) (m current : List ℕ) : Type 0 where
   pub in-current : length current ≡ n .cells
 
 module _ (n : Numbers) (p : Phase) (m current : List ℕ) (no : ℕ) (e : no ≡ refusal RecoveryStep (lentTo n p m current [] [] [])) where
-  pub step-refused : (no ≡ 0 → ⊥) → left (refused no) n p m current [] [] [] ≡ recoveryStep (lentTo n p m current [] [] [])
-  unfolding left recoveryStep
-  step-refused h = numbered-refused RecoveryStep (lentTo n p m current [] [] []) _ no e h
+  pub step-refused : (no ≡ 0 → ⊥) → left (refused no) n p m current [] [] [] ≡ act RecoveryStep (lentTo n p m current [] [] [])
+  unfolding left act performed
+  step-refused h = numbered-refused RecoveryStep (lentTo n p m current [] [] []) no e h
 
   module _ (h : no ≡ 0) where
     pub stepping : Stepping n m current
@@ -219,13 +220,13 @@ module _ (n : Numbers) (p : Phase) (m current : List ℕ) (no : ℕ) (e : no ≡
         }
 
     module _ (u : Found) (d : found u ≡ differing (tableOf (length current) (n .slots) m) current 0) where
-      step-is : (o : Option ℕ) → found u ≡ o → stepAt o (lentTo n p m current [] [] []) ≡ recoveryStep (lentTo n p m current [] [] [])
-      unfolding recoveryStep lentTo stateOf
+      step-is : (o : Option ℕ) → found u ≡ o → stepAt o (lentTo n p m current [] [] []) ≡ act RecoveryStep (lentTo n p m current [] [] [])
+      unfolding performed lentTo stateOf
       step-is o q =
           let z : o ≡ differing (tableOf (n .cells) (n .slots) m) current 0 =
           sym q ∙ d ∙ ap (λ i. differing (tableOf i (n .slots) m) current 0) (stepping .in-current) in
           ap (λ i. stepAt i (lentTo n p m current [] [] [])) z
-          ∙ numbered-done RecoveryStep (lentTo n p m current [] [] []) _ no e h
+          ∙ numbered-done RecoveryStep (lentTo n p m current [] [] []) no e h
 
       module _ (c : ℕ) (q : u ≡ At c) where
         pub step-inside : c < length current
@@ -236,7 +237,7 @@ module _ (n : Numbers) (p : Phase) (m current : List ℕ) (no : ℕ) (e : no ≡
         step-room = let i = step-inside in let f = stepping in omega (arith, f .in-medium, f .in-current)
 
         pub step-cell : (at : ℕ) (m′ : List ℕ) → at ≡ c → m′ ≡ put m (cellAt (n .slots) c) (bytesOf 8 (getD current at 0))
-            → left (cell c) n p m′ current [] [] [] ≡ recoveryStep (lentTo n p m current [] [] [])
+            → left (cell c) n p m′ current [] [] [] ≡ act RecoveryStep (lentTo n p m current [] [] [])
         unfolding left lentTo stateOf stepAt storeCell withMedium
         step-cell at m′ qa qm =
             let z = qm ∙ ap (λ i. put m (cellAt (n .slots) c) (bytesOf 8 (getD current i 0))) qa in
@@ -244,5 +245,5 @@ module _ (n : Numbers) (p : Phase) (m current : List ℕ) (no : ℕ) (e : no ≡
 
       pub step-last : u ≡ Nothing → (a : Answer) (n′ : Numbers) (p′ : Phase) (m′ : List ℕ)
           → left a n′ p′ m′ current [] [] [] ≡ stepAt none (lentTo n p m current [] [] [])
-          → left a n′ p′ m′ current [] [] [] ≡ recoveryStep (lentTo n p m current [] [] [])
+          → left a n′ p′ m′ current [] [] [] ≡ act RecoveryStep (lentTo n p m current [] [] [])
       step-last q a n′ p′ m′ r = r ∙ step-is none (ap found q)

@@ -8,8 +8,8 @@ ghost use Prim.Native.Nat.{ℕ, _+_, _*_, _<_, _≤_};
 ghost use lib.ListN.{length, replicate};
 ghost use Rattle.scope.specs.Bytes.{numberAt};
 ghost use Rattle.scope.specs.Keeper.{headOk};
-ghost use Rattle.scope.specs.Refusals.{RecoveryStep, lentStart, refusal};
-ghost use Rattle.scope.specs.Calls.{recoveryStart, recoveryStep, stepAt};
+ghost use Rattle.scope.specs.Refusals.{RecoveryStart, RecoveryStep, lentStart, refusal};
+ghost use Rattle.scope.specs.Calls.{stepAt, act};
 ghost use Rattle.state.specs.Lent.{lentTo, stateless, left};
 ghost use Rattle.recovery.specs.Answers.{numbered, stepped};
 use medium::head::head_ok;
@@ -127,7 +127,7 @@ pub fn recovery_start(
     last: &mut [u32],
     waiting: &[u8],
 ) -> Started
-    ensures { λ r. ⌜ left (numbered (r .number)) (r .numbers) (r .phase) (now (medium .entry)) (now (current .exit)) (now (first .exit)) (now (last .exit)) (now (waiting .entry)) ≡ recoveryStart (stateless (now (medium .entry)) (now (current .entry)) (now (first .entry)) (now (last .entry)) (now (waiting .entry))) ⌝ }
+    ensures { λ r. ⌜ left (numbered (r .number)) (r .numbers) (r .phase) (now (medium .entry)) (now (current .exit)) (now (first .exit)) (now (last .exit)) (now (waiting .entry)) ≡ act RecoveryStart (stateless (now (medium .entry)) (now (current .entry)) (now (first .entry)) (now (last .entry)) (now (waiting .entry))) ⌝ }
 {
     let fit = start_fits(medium, current, first, last, waiting);
     if fit {} else {
@@ -199,7 +199,7 @@ fn step_end(numbers: Numbers, medium: &mut [u8]) -> Stepped
 // Recovery step: the lowest cell whose table value differs from the current one is stored; if none, the head with h = l, where h < l;
 // else nothing. Refuses 1, 10. Stops at the first differing cell; stores that cell or the head.
 pub fn recovery_step(numbers: Numbers, phase: Phase, medium: &mut [u8], current: &[u64]) -> Stepped
-    ensures { λ r. ⌜ left (stepped (r .answer)) (r .numbers) (r .phase) (now (medium .exit)) (now (current .entry)) [] [] [] ≡ recoveryStep (lentTo numbers phase (now (medium .entry)) (now (current .entry)) [] [] []) ⌝ }
+    ensures { λ r. ⌜ left (stepped (r .answer)) (r .numbers) (r .phase) (now (medium .exit)) (now (current .entry)) [] [] [] ≡ act RecoveryStep (lentTo numbers phase (now (medium .entry)) (now (current .entry)) [] [] []) ⌝ }
 {
     let no = step_refusal(numbers, phase, medium, current);
     if no != 0 {

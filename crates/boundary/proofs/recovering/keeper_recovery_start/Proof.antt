@@ -6,13 +6,13 @@ use Rattle.boundary.proofs.recovering.keeper_recovery_start.Statement.{
 use Rattle.boundary.proofs.recovering.keeper_recovery_start.Tie as tie
 
 returns : tie.Need-returns
-returns c = start-other _ _ _ _ _ _ _ (omega arith)
+returns c = start-other _ _ _ _ _ _ (omega arith)
 
 returns-2 : tie.Need-returns-2
 returns-2 c =
     let p3 = c .before .before .before in
     let p12 = p3 .before .before .before .before .before .before .before .before .before in
-    start-crossed _ _ _ _ _ _ _ (omega arith) (p12 .recovery-start .result .state) _ _ _ _ _ _ _ _ (p12 .recovery-start .ensures) (c .number-of .ensures) (p3 .put-state .ensures)
+    start-crossed _ _ _ _ _ _ (omega arith) (p12 .recovery-start .result .state) _ _ _ _ _ _ _ _ (p12 .recovery-start .ensures) (c .number-of .ensures) (p3 .put-state .ensures)
 
 pub keeper-recovery-start-spec : {M : Type 1} → statement M
 keeper-recovery-start-spec =

@@ -3,12 +3,11 @@ use borrow.Author.Needs.{needs}
 use mathlib.Core.Path.{refl}
 use Rattle.boundary.proofs.Crossing.{crossed, no-state}
 use Rattle.boundary.proofs.SevenNumbers.{holds-state, holds-none}
-use Rattle.boundary.proofs.Unsound.{step-unsound}
 use Rattle.boundary.proofs.recovering.keeper_recovery_step.Statement.{statement}
 use Rattle.boundary.proofs.recovering.keeper_recovery_step.Tie as tie
 
 returns : tie.Need-returns
-returns c = no-state _ _ _ _ _ _ _ refl _ _ (holds-none _ _ (c .before .before .state-in .ensures) (c .enum-told .given .1)) refl (step-unsound _ _ _ _ _)
+returns c = no-state _ _ _ _ _ _ _ refl _ _ (holds-none _ _ (c .before .before .state-in .ensures) (c .enum-told .given .1)) refl tt
 
 put-state-requires : tie.Need-put-state-requires
 put-state-requires c κs =

@@ -4,12 +4,11 @@ use mathlib.Core.Path.{refl}
 use Rattle.boundary.proofs.Crossing.{crossed, no-state}
 use Rattle.boundary.proofs.Kept.{force-keeps, refused-crossed}
 use Rattle.boundary.proofs.SevenNumbers.{holds-state, holds-none}
-use Rattle.boundary.proofs.Unsound.{force-unsound}
 use Rattle.boundary.proofs.storing.keeper_force.Statement.{statement}
 use Rattle.boundary.proofs.storing.keeper_force.Tie as tie
 
 returns : tie.Need-returns
-returns c = no-state _ _ _ _ _ _ _ refl _ _ (holds-none _ _ (c .before .before .state-in .ensures) (c .enum-told .given .1)) refl (force-unsound _ _ _ _ _)
+returns c = no-state _ _ _ _ _ _ _ refl _ _ (holds-none _ _ (c .before .before .state-in .ensures) (c .enum-told .given .1)) refl tt
 
 returns-2 : tie.Need-returns-2
 returns-2 c =

@@ -1,17 +1,16 @@
 -- `boundary::transaction::keeper_commit` meets its contract. The library's call on the state in the slice, or the state of zeros refused.
 use borrow.Author.Needs.{needs}
 use mathlib.Core.Path.{refl}
-use Rattle.scope.specs.Calls.{commit}
+use Rattle.scope.specs.Refusals.{Commit}
 use Rattle.boundary.proofs.Crossing.{crossed, no-state}
 use Rattle.boundary.proofs.Kept.{commit-keeps, refused-crossed}
 use Rattle.boundary.proofs.Made.{commit-makes, begins}
 use Rattle.boundary.proofs.SevenNumbers.{holds-state, holds-none}
-use Rattle.boundary.proofs.Unsound.{commit-unsound}
 use Rattle.boundary.proofs.transaction.keeper_commit.Statement.{statement}
 use Rattle.boundary.proofs.transaction.keeper_commit.Tie as tie
 
 returns : tie.Need-returns
-returns c = no-state _ _ _ _ _ _ _ refl _ _ (holds-none _ _ (c .before .before .state-in .ensures) (c .enum-told .given .1)) refl (commit-unsound _ _ _ _ _)
+returns c = no-state _ _ _ _ _ _ _ refl _ _ (holds-none _ _ (c .before .before .state-in .ensures) (c .enum-told .given .1)) refl tt
 
 returns-2 : tie.Need-returns-2
 returns-2 c =
@@ -26,7 +25,7 @@ put-made-requires c κs =
     let p9 = p6 .before .before .before in
     let p11 = p9 .before .before in
     let h = holds-state _ _ (p11 .state-in .ensures) _ (p9 .s .given .1) in
-    begins _ _ _ _ _ _ commit commit-makes _ (p6 .commit .result .state) h _ _ _ _ _ _ (p6 .commit .ensures)
+    begins _ _ _ _ _ _ Commit commit-makes _ (p6 .commit .result .state) h _ _ _ _ _ _ (p6 .commit .ensures)
 
 returns-3 : tie.Need-returns-3
 returns-3 c =

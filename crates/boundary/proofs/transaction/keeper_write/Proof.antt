@@ -1,16 +1,15 @@
 -- `boundary::transaction::keeper_write` meets its contract. The library's call on the state in the slice, or the state of zeros refused.
 use borrow.Author.Needs.{needs}
 use mathlib.Core.Path.{refl}
-use Rattle.scope.specs.Calls.{write}
+use Rattle.scope.specs.Refusals.{Write}
 use Rattle.boundary.proofs.Crossing.{crossed, no-state}
 use Rattle.boundary.proofs.Made.{write-makes, begins}
 use Rattle.boundary.proofs.SevenNumbers.{holds-state, holds-none}
-use Rattle.boundary.proofs.Unsound.{write-unsound}
 use Rattle.boundary.proofs.transaction.keeper_write.Statement.{statement}
 use Rattle.boundary.proofs.transaction.keeper_write.Tie as tie
 
 returns : tie.Need-returns
-returns c = no-state _ _ _ _ _ _ _ refl _ _ (holds-none _ _ (c .before .before .state-in .ensures) (c .enum-told .given .1)) refl (write-unsound _ _ _ _ _ _ _)
+returns c = no-state _ _ _ _ _ _ _ refl _ _ (holds-none _ _ (c .before .before .state-in .ensures) (c .enum-told .given .1)) refl tt
 
 put-made-requires : tie.Need-put-made-requires
 put-made-requires c κs =
@@ -18,7 +17,7 @@ put-made-requires c κs =
     let p16 = p10 .before .before .before .before .before .before in
     let p18 = p16 .before .before in
     let h = holds-state _ _ (p18 .state-in .ensures) _ (p16 .s .given .1) in
-    begins _ _ _ _ _ _ (write _ _) (write-makes _ _) _ (p10 .write .result .state) h _ _ _ _ _ _ (p10 .write .ensures)
+    begins _ _ _ _ _ _ (Write _ _) (write-makes _ _) _ (p10 .write .result .state) h _ _ _ _ _ _ (p10 .write .ensures)
 
 returns-2 : tie.Need-returns-2
 returns-2 c =

@@ -1,14 +1,16 @@
 -- `keeper::State::abort` meets its contract. Refused, or done: in run rolled back.
 use borrow.Author.Needs.{needs}
 use mathlib.Core.List.{[]}
-use mathlib.Core.Path.{sym, _∙_}
+use mathlib.Core.Path.{refl, sym, _∙_}
 use Rattle.keeper.proofs.Passed.{abort-passed}
-use Rattle.keeper.proofs.Transactions.{abort-refused, abort-run, abort-idle}
+use Rattle.keeper.proofs.Transactions.{abort-run, abort-idle}
+use Rattle.scope.specs.Refusals.{Abort}
+use Rattle.keeper.proofs.Unless.{refused-leaves}
 use Rattle.keeper.proofs.State.abort.Statement.{statement}
 use Rattle.keeper.proofs.State.abort.Tie as tie
 
 returns : tie.Need-returns
-returns c = abort-refused _ _ _ _ _ _ _ (c .before .before .abort .ensures) (c .refused .ensures) (c .before .if1 .taken)
+returns c = refused-leaves Abort _ [] _ _ _ _ (λ k. refl) _ _ (c .before .before .abort .ensures) (c .refused .ensures) (c .before .if1 .taken)
 
 roll-back-requires : tie.Need-roll-back-requires
 roll-back-requires c κs =

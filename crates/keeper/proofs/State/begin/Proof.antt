@@ -1,14 +1,16 @@
 -- `keeper::State::begin` meets its contract. Refused, or done: in run rolled back first.
 use borrow.Author.Needs.{needs}
 use mathlib.Core.List.{[]}
-use mathlib.Core.Path.{sym, _∙_}
+use mathlib.Core.Path.{refl, sym, _∙_}
 use Rattle.keeper.proofs.Passed.{begin-passed}
-use Rattle.keeper.proofs.Transactions.{begin-refused, begin-run, begin-idle}
+use Rattle.keeper.proofs.Transactions.{begin-run, begin-idle}
+use Rattle.scope.specs.Refusals.{Begin}
+use Rattle.keeper.proofs.Unless.{refused-leaves}
 use Rattle.keeper.proofs.State.begin.Statement.{statement}
 use Rattle.keeper.proofs.State.begin.Tie as tie
 
 returns : tie.Need-returns
-returns c = begin-refused _ _ _ _ _ _ _ (c .before .before .begin .ensures) (c .refused .ensures) (c .before .if1 .taken)
+returns c = refused-leaves Begin _ [] _ _ _ _ (λ k. refl) _ _ (c .before .before .begin .ensures) (c .refused .ensures) (c .before .if1 .taken)
 
 roll-back-requires : tie.Need-roll-back-requires
 roll-back-requires c κs =

@@ -4,12 +4,14 @@ use mathlib.Core.List.{[]}
 use mathlib.Core.Path.{refl, sym, _∙_}
 use native.Mathlib.Omega.{arith}
 use Rattle.keeper.proofs.Passed.{commit-passed}
-use Rattle.keeper.proofs.Transactions.{commit-refused, commit-done}
+use Rattle.keeper.proofs.Transactions.{commit-done}
+use Rattle.scope.specs.Refusals.{Commit}
+use Rattle.keeper.proofs.Unless.{refused-leaves}
 use Rattle.keeper.proofs.State.commit.Statement.{statement}
 use Rattle.keeper.proofs.State.commit.Tie as tie
 
 returns : tie.Need-returns
-returns c = commit-refused _ _ _ _ (c .before .before .commit .ensures) (c .refused .ensures) (c .before .if1 .taken)
+returns c = refused-leaves Commit _ [] [] [] [] _ (λ k. refl) _ _ (c .before .before .commit .ensures) (c .refused .ensures) (c .before .if1 .taken)
 
 add-number : tie.Need-add-number
 add-number c =

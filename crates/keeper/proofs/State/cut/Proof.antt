@@ -1,15 +1,17 @@
 -- `keeper::State::cut` meets its contract. Refused, or the head stored.
 use borrow.Author.Needs.{needs}
 use mathlib.Core.List.{[]}
-use mathlib.Core.Path.{sym, _∙_}
+use mathlib.Core.Path.{refl, sym, _∙_}
 use native.Mathlib.Omega.{arith}
 use Rattle.keeper.proofs.Passed.{cut-passed}
-use Rattle.keeper.proofs.Stores.{cut-refused, cut-done}
+use Rattle.keeper.proofs.Stores.{cut-done}
+use Rattle.scope.specs.Refusals.{Cut}
+use Rattle.keeper.proofs.Unless.{refused-leaves}
 use Rattle.keeper.proofs.State.cut.Statement.{statement}
 use Rattle.keeper.proofs.State.cut.Tie as tie
 
 returns : tie.Need-returns
-returns c = cut-refused _ _ _ _ _ _ (c .before .before .cut .ensures) (c .refused .ensures) (c .before .if1 .taken)
+returns c = refused-leaves (Cut _) _ _ [] _ [] [] (λ k. refl) _ _ (c .before .before .cut .ensures) (c .refused .ensures) (c .before .if1 .taken)
 
 store-head-requires : tie.Need-store-head-requires
 store-head-requires c κs =

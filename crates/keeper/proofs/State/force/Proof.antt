@@ -4,12 +4,14 @@ use mathlib.Core.List.{[]}
 use mathlib.Core.Path.{refl, sym, _∙_}
 use native.Mathlib.Omega.{arith}
 use Rattle.keeper.proofs.Passed.{force-passed}
-use Rattle.keeper.proofs.Stores.{force-refused, force-none, force-stored}
+use Rattle.keeper.proofs.Stores.{force-none, force-stored}
+use Rattle.scope.specs.Refusals.{Force}
+use Rattle.keeper.proofs.Unless.{refused-leaves}
 use Rattle.keeper.proofs.State.force.Statement.{statement}
 use Rattle.keeper.proofs.State.force.Tie as tie
 
 returns : tie.Need-returns
-returns c = force-refused _ _ _ _ _ (c .before .before .force .ensures) (c .refused .ensures) (c .before .if1 .taken)
+returns c = refused-leaves Force _ _ [] [] [] _ (λ k. refl) _ _ (c .before .before .force .ensures) (c .refused .ensures) (c .before .if1 .taken)
 
 returns-2 : tie.Need-returns-2
 returns-2 c =

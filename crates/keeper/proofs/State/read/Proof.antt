@@ -4,12 +4,14 @@ use mathlib.Core.List.{[]}
 use mathlib.Core.Path.{refl, sym, _∙_}
 use native.Mathlib.Omega.{arith}
 use Rattle.keeper.proofs.Passed.{read-passed}
-use Rattle.keeper.proofs.Transactions.{read-refused, read-done}
+use Rattle.keeper.proofs.Transactions.{read-done}
+use Rattle.scope.specs.Refusals.{Read}
+use Rattle.keeper.proofs.Unless.{refused-leaves}
 use Rattle.keeper.proofs.State.read.Statement.{statement}
 use Rattle.keeper.proofs.State.read.Tie as tie
 
 returns : tie.Need-returns
-returns c = read-refused _ _ _ _ _ (c .before .before .read .ensures) (c .refused .ensures) (c .before .if1 .taken)
+returns c = refused-leaves (Read _) _ [] _ [] [] [] (λ k. refl) _ _ (c .before .before .read .ensures) (c .refused .ensures) (c .before .if1 .taken)
 
 shared-slice-read-done : tie.Need-shared-slice-read-done
 shared-slice-read-done c =

@@ -4,12 +4,14 @@ use mathlib.Core.List.{[]}
 use mathlib.Core.Path.{refl, sym, _∙_}
 use native.Mathlib.Omega.{arith}
 use Rattle.keeper.proofs.Passed.{write-passed}
-use Rattle.keeper.proofs.Transactions.{write-refused, write-done}
+use Rattle.keeper.proofs.Transactions.{write-done}
+use Rattle.scope.specs.Refusals.{Write}
+use Rattle.keeper.proofs.Unless.{refused-leaves}
 use Rattle.keeper.proofs.State.write.Statement.{statement}
 use Rattle.keeper.proofs.State.write.Tie as tie
 
 returns : tie.Need-returns
-returns c = write-refused _ _ _ _ _ _ _ _ _ (c .before .before .write .ensures) (c .refused .ensures) (c .before .if1 .taken)
+returns c = refused-leaves (Write _ _) _ [] _ _ _ _ (λ k. refl) _ _ (c .before .before .write .ensures _) (c .refused .ensures) (c .before .if1 .taken)
 
 add-n : tie.Need-add-n
 add-n c =
