@@ -20,7 +20,9 @@ pub extern "C" fn keeper_recovery_start(
     waiting: &[u8],
     state: &mut [u32],
 ) -> u32
-    ensures { λ r. ⌜ result r 0 (now (state .exit)) (now (medium .entry)) (now (current .exit)) (now (first .exit)) (now (last .exit)) (now (waiting .entry)) ≡ startOver (now (state .entry)) (now (medium .entry)) (now (current .entry)) (now (first .entry)) (now (last .entry)) (now (waiting .entry)) ⌝ }
+    ensures { λ r.
+        let after = result r 0 (now (state .exit)) (now (medium .entry)) (now (current .exit)) (now (first .exit)) (now (last .exit)) (now (waiting .entry)) in
+        ⌜ after ≡ startOver (now (state .entry)) (now (medium .entry)) (now (current .entry)) (now (first .entry)) (now (last .entry)) (now (waiting .entry)) ⌝ }
 {
     if state.len() != 7 {
         return 1;
@@ -39,7 +41,9 @@ pub extern "C" fn keeper_recovery_step(
     current: &[u64],
     value: &mut u64,
 ) -> u32
-    ensures { λ r. ⌜ result r (now (value .exit)) (now (state .exit)) (now (medium .exit)) (now (current .entry)) [] [] [] ≡ over stepValue RecoveryStep (now (state .entry)) (now (medium .entry)) (now (current .entry)) [] [] [] ⌝ }
+    ensures { λ r.
+        let after = result r (now (value .exit)) (now (state .exit)) (now (medium .exit)) (now (current .entry)) [] [] [] in
+        ⌜ after ≡ over stepValue RecoveryStep (now (state .entry)) (now (medium .entry)) (now (current .entry)) [] [] [] ⌝ }
 {
     let Held::State(s) = state_in(state) else {
         *value = 0;

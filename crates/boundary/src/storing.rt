@@ -30,7 +30,9 @@ pub extern "C" fn keeper_force(
     waiting: &[u8],
     value: &mut u64,
 ) -> u32
-    ensures { λ r. ⌜ result r (now (value .exit)) (now (state .exit)) (now (medium .exit)) [] [] [] (now (waiting .entry)) ≡ over valueOf Force (now (state .entry)) (now (medium .entry)) [] [] [] (now (waiting .entry)) ⌝ }
+    ensures { λ r.
+        let after = result r (now (value .exit)) (now (state .exit)) (now (medium .exit)) [] [] [] (now (waiting .entry)) in
+        ⌜ after ≡ over valueOf Force (now (state .entry)) (now (medium .entry)) [] [] [] (now (waiting .entry)) ⌝ }
 {
     let Held::State(s) = state_in(state) else {
         *value = 0;
@@ -58,7 +60,9 @@ pub extern "C" fn keeper_write_back(
     last: &[u32],
     value: &mut u64,
 ) -> u32
-    ensures { λ r. ⌜ result r (now (value .exit)) (now (state .exit)) (now (medium .exit)) (now (current .entry)) (now (first .exit)) (now (last .entry)) [] ≡ over backValue (WriteBack cell) (now (state .entry)) (now (medium .entry)) (now (current .entry)) (now (first .entry)) (now (last .entry)) [] ⌝ }
+    ensures { λ r.
+        let after = result r (now (value .exit)) (now (state .exit)) (now (medium .exit)) (now (current .entry)) (now (first .exit)) (now (last .entry)) [] in
+        ⌜ after ≡ over backValue (WriteBack cell) (now (state .entry)) (now (medium .entry)) (now (current .entry)) (now (first .entry)) (now (last .entry)) [] ⌝ }
 {
     let Held::State(s) = state_in(state) else {
         *value = 0;
@@ -74,7 +78,9 @@ pub extern "C" fn keeper_write_back(
 
 #[no_mangle]
 pub extern "C" fn keeper_cut(state: &mut [u32], p: u32, medium: &mut [u8], first: &[u32]) -> u32
-    ensures { λ r. ⌜ result r 0 (now (state .exit)) (now (medium .exit)) [] (now (first .entry)) [] [] ≡ over noValue (Cut p) (now (state .entry)) (now (medium .entry)) [] (now (first .entry)) [] [] ⌝ }
+    ensures { λ r.
+        let after = result r 0 (now (state .exit)) (now (medium .exit)) [] (now (first .entry)) [] [] in
+        ⌜ after ≡ over noValue (Cut p) (now (state .entry)) (now (medium .entry)) [] (now (first .entry)) [] [] ⌝ }
 {
     let Held::State(s) = state_in(state) else {
         return 1;

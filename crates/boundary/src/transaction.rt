@@ -20,7 +20,9 @@ pub extern "C" fn keeper_begin(
     last: &mut [u32],
     waiting: &mut [u8],
 ) -> u32
-    ensures { λ r. ⌜ result r 0 (now (state .exit)) [] (now (current .exit)) (now (first .exit)) (now (last .exit)) (now (waiting .exit)) ≡ over noValue Begin (now (state .entry)) [] (now (current .entry)) (now (first .entry)) (now (last .entry)) (now (waiting .entry)) ⌝ }
+    ensures { λ r.
+        let after = result r 0 (now (state .exit)) [] (now (current .exit)) (now (first .exit)) (now (last .exit)) (now (waiting .exit)) in
+        ⌜ after ≡ over noValue Begin (now (state .entry)) [] (now (current .entry)) (now (first .entry)) (now (last .entry)) (now (waiting .entry)) ⌝ }
 {
     let Held::State(s) = state_in(state) else {
         return 1;
@@ -34,7 +36,9 @@ pub extern "C" fn keeper_begin(
 
 #[no_mangle]
 pub extern "C" fn keeper_read(state: &mut [u32], cell: u32, current: &[u64], value: &mut u64) -> u32
-    ensures { λ r. ⌜ result r (now (value .exit)) (now (state .exit)) [] (now (current .entry)) [] [] [] ≡ over valueOf (Read cell) (now (state .entry)) [] (now (current .entry)) [] [] [] ⌝ }
+    ensures { λ r.
+        let after = result r (now (value .exit)) (now (state .exit)) [] (now (current .entry)) [] [] [] in
+        ⌜ after ≡ over valueOf (Read cell) (now (state .entry)) [] (now (current .entry)) [] [] [] ⌝ }
 {
     let Held::State(s) = state_in(state) else {
         *value = 0;
@@ -58,7 +62,9 @@ pub extern "C" fn keeper_write(
     last: &mut [u32],
     waiting: &mut [u8],
 ) -> u32
-    ensures { λ r. ⌜ result r 0 (now (state .exit)) [] (now (current .exit)) (now (first .exit)) (now (last .exit)) (now (waiting .exit)) ≡ over noValue (Write cell new) (now (state .entry)) [] (now (current .entry)) (now (first .entry)) (now (last .entry)) (now (waiting .entry)) ⌝ }
+    ensures { λ r.
+        let after = result r 0 (now (state .exit)) [] (now (current .exit)) (now (first .exit)) (now (last .exit)) (now (waiting .exit)) in
+        ⌜ after ≡ over noValue (Write cell new) (now (state .entry)) [] (now (current .entry)) (now (first .entry)) (now (last .entry)) (now (waiting .entry)) ⌝ }
 {
     let Held::State(s) = state_in(state) else {
         return 1;
@@ -72,7 +78,9 @@ pub extern "C" fn keeper_write(
 
 #[no_mangle]
 pub extern "C" fn keeper_commit(state: &mut [u32], waiting: &mut [u8], value: &mut u64) -> u32
-    ensures { λ r. ⌜ result r (now (value .exit)) (now (state .exit)) [] [] [] [] (now (waiting .exit)) ≡ over valueOf Commit (now (state .entry)) [] [] [] [] (now (waiting .entry)) ⌝ }
+    ensures { λ r.
+        let after = result r (now (value .exit)) (now (state .exit)) [] [] [] [] (now (waiting .exit)) in
+        ⌜ after ≡ over valueOf Commit (now (state .entry)) [] [] [] [] (now (waiting .entry)) ⌝ }
 {
     let Held::State(s) = state_in(state) else {
         *value = 0;
@@ -98,7 +106,9 @@ pub extern "C" fn keeper_abort(
     last: &mut [u32],
     waiting: &mut [u8],
 ) -> u32
-    ensures { λ r. ⌜ result r 0 (now (state .exit)) [] (now (current .exit)) (now (first .exit)) (now (last .exit)) (now (waiting .exit)) ≡ over noValue Abort (now (state .entry)) [] (now (current .entry)) (now (first .entry)) (now (last .entry)) (now (waiting .entry)) ⌝ }
+    ensures { λ r.
+        let after = result r 0 (now (state .exit)) [] (now (current .exit)) (now (first .exit)) (now (last .exit)) (now (waiting .exit)) in
+        ⌜ after ≡ over noValue Abort (now (state .entry)) [] (now (current .entry)) (now (first .entry)) (now (last .entry)) (now (waiting .entry)) ⌝ }
 {
     let Held::State(s) = state_in(state) else {
         return 1;

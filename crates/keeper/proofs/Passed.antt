@@ -21,7 +21,6 @@ use Rattle.keeper.specs.Rolling.{Rolling}
 ruleset lengths = (and-left, and-right, eqb-true)
 
 in-run : (p : code.Phase) → isRecovering (phaseOf p) ≡ false → isIdle (phaseOf p) ≡ false → isRun (phaseOf p) ≡ true
-unfolding isRecovering isIdle isRun
 in-run Idle a b = absurd (false≢true (sym b))
 in-run Run a b = refl
 in-run Recovering a b = absurd (false≢true (sym a))
@@ -34,12 +33,12 @@ module _ (n : Numbers) (p : code.Phase) (medium current first last waiting : Lis
   unfolding lentTo k
   is-sound a e = sound-facts n p (fit-sound a k e)
 
-  desk-fits : lent Abort k ≡ true → (length current ≡ n .cells) × (length first ≡ n .cells) × (length last ≡ n .cells) × (length waiting ≡ 32 * n .slots)
+  workspaces-fit : lent Abort k ≡ true → (length current ≡ n .cells) × (length first ≡ n .cells) × (length last ≡ n .cells) × (length waiting ≡ 32 * n .slots)
   unfolding lent lentTo stateOf k
-  desk-fits e = (search lengths, search lengths, search lengths, search lengths)
+  workspaces-fit e = (search lengths, search lengths, search lengths, search lengths)
 
   rolling : Sound n p → isRun (phaseOf p) ≡ true → lent Abort k ≡ true → Rolling n current first last waiting
-  rolling s r e = let d = desk-fits e in let f = run-facts n p s r in omega arith
+  rolling s r e = let d = workspaces-fit e in let f = run-facts n p s r in omega arith
 
   pub read-passed : (c : ℕ) → refusal (Read c) (lentTo n p medium current first last waiting) ≡ 0 → c < length current
   unfolding tests lent lentTo stateOf k

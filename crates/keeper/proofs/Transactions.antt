@@ -16,8 +16,8 @@ use Rattle.state.specs.declared.Phase.the-variants.{Idle, Run}
 use Rattle.row.specs.Row.{entry}
 use Rattle.row.specs.declared.Entry.the-variants as what
 use Rattle.journal.specs.Entries.{entryIn}
-use Rattle.workspace.specs.Desk.{Desk, desk, assigned, rolledFrom}
-use Rattle.workspace.proofs.Desks.{withDesk, rollback-desk}
+use Rattle.workspace.specs.Values.{Values, values, assigned, rolledFrom}
+use Rattle.workspace.proofs.Alike.{withValues, rollback-values}
 use Rattle.state.specs.Lent.{lentTo}
 use Rattle.keeper.specs.Answers.{answered, handed, leaves}
 use Rattle.keeper.specs.declared.State.{State}
@@ -49,35 +49,35 @@ module _ (s : State) (r : result.Outcome) (number : ℕ) where
   module _ (current first last waiting : List ℕ) where
     module _ (cell value : ℕ) (e : (v : ℕ) → number ≡ refusal (Write cell v) (lentTo (s .numbers) (s .phase) [] current first last waiting)) where
       pub write-done : (n at old : ℕ) (c f l w : List ℕ) (m : Numbers) → n ≡ s .numbers .l + 1 → at ≡ cell → old ≡ getD current at 0
-          → w ≡ put waiting (rowAt (s .numbers .slots) n) (rowBytes n (entry (what.Update cell old value))) → desk c f l ≡ assigned n cell value (desk current first last)
+          → w ≡ put waiting (rowAt (s .numbers .slots) n) (rowBytes n (entry (what.Update cell old value))) → values c f l ≡ assigned n cell value (values current first last)
           → m ≡ record { cells = s .numbers .cells; slots = s .numbers .slots; h = s .numbers .h; f = s .numbers .f; l = n; o = s .numbers .o }
           → r ≡ record { answer = Done 0; state = record { numbers = m; phase = Run } } → number ≡ 0
           → leaves (answered (r .answer)) (r .state) [] c f l w ≡ act (Write cell value) (handed s [] current first last waiting)
-      unfolding performed leaves handed lentTo stateOf withState withWaiting madeTo append assign assigned desk
+      unfolding performed leaves handed lentTo stateOf withState withWaiting madeTo append assign assigned values
       write-done n at old c f l w m p a o q d g x z =
           rw (x, g, q, o, a, p)
-          (ap (λ (y : Desk). record { answer = done 0; keeper = lentTo (record { cells = s .numbers .cells; slots = s .numbers .slots; h = s .numbers .h; f = s .numbers .f; l = s .numbers .l + 1; o = s .numbers .o }) Run [] (y .current) (y .first) (y .last) (put waiting (rowAt (s .numbers .slots) (s .numbers .l + 1)) (rowBytes (s .numbers .l + 1) (update cell (getD current cell 0) value))) })
-          (d ∙ ap (λ i. assigned i cell value (desk current first last)) p)
+          (ap (λ (y : Values). record { answer = done 0; keeper = lentTo (record { cells = s .numbers .cells; slots = s .numbers .slots; h = s .numbers .h; f = s .numbers .f; l = s .numbers .l + 1; o = s .numbers .o }) Run [] (y .current) (y .first) (y .last) (put waiting (rowAt (s .numbers .slots) (s .numbers .l + 1)) (rowBytes (s .numbers .l + 1) (update cell (getD current cell 0) value))) })
+          (d ∙ ap (λ i. assigned i cell value (values current first last)) p)
           ∙ numbered-done (Write cell value) (lentTo (s .numbers) (s .phase) [] current first last waiting) number (e value) z)
 
     -- the abort entry appended and the rows rolled back
     pub roll-done : (next : code.Phase) (n : ℕ) (c f l w : List ℕ) (m : Numbers) → n ≡ s .numbers .l + 1
         → w ≡ put waiting (rowAt (s .numbers .slots) n) (rowBytes n (entry what.Abort))
-        → desk c f l ≡ rolledFrom (entryIn w 0 (s .numbers .slots) (s .numbers .cells)) n (s .numbers .l - s .numbers .o) (s .numbers .l) (desk current first last)
+        → values c f l ≡ rolledFrom (entryIn w 0 (s .numbers .slots) (s .numbers .cells)) n (s .numbers .l - s .numbers .o) (s .numbers .l) (values current first last)
         → m ≡ record { cells = s .numbers .cells; slots = s .numbers .slots; h = s .numbers .h; f = s .numbers .f; l = n; o = n }
         → r ≡ record { answer = Done 0; state = record { numbers = m; phase = next } }
         → leaves (answered (r .answer)) (r .state) [] c f l w ≡ record { answer = done 0; keeper = rolledBack (phaseOf next) (handed s [] current first last waiting) }
-    unfolding rolledBack leaves handed lentTo stateOf withState withWaiting madeTo append desk
+    unfolding rolledBack leaves handed lentTo stateOf withState withWaiting madeTo append values
     roll-done next n c f l w m p q d g x =
         let i = s .numbers .l + 1 in
         let v = put waiting (rowAt (s .numbers .slots) i) (rowBytes i abortEntry) in
         let j = append abortEntry (handed s [] current first last waiting) in
         let to = madeTo i i (phaseOf next) (stateOf (s .numbers) (s .phase)) in
-        let d′ : desk c f l ≡ rolledFrom (entryIn v 0 (s .numbers .slots) (s .numbers .cells)) i (s .numbers .l - s .numbers .o) (s .numbers .l) (desk current first last) =
+        let d′ : values c f l ≡ rolledFrom (entryIn v 0 (s .numbers .slots) (s .numbers .cells)) i (s .numbers .l - s .numbers .o) (s .numbers .l) (values current first last) =
         d ∙ rw (q, p) in
         rw (x, g, q, p)
-        (ap (λ (y : Desk). record { answer = done 0; keeper = withState to (withDesk j y) }) d′
-        ∙ ap (λ (y : Keeper). record { answer = done 0; keeper = withState to y }) (rollback-desk j i (s .numbers .l - s .numbers .o) (s .numbers .l) (desk current first last)))
+        (ap (λ (y : Values). record { answer = done 0; keeper = withState to (withValues j y) }) d′
+        ∙ ap (λ (y : Keeper). record { answer = done 0; keeper = withState to y }) (rollback-values j i (s .numbers .l - s .numbers .o) (s .numbers .l) (values current first last)))
 
     module _ (e : number ≡ refusal Abort (lentTo (s .numbers) (s .phase) [] current first last waiting)) where
       module _ (z : number ≡ 0) (b : Bool) (bb : b ≡ isRun (phaseOf (s .phase))) where

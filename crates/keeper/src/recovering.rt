@@ -31,7 +31,10 @@ impl State {
         last: &mut [u32],
         waiting: &[u8],
     ) -> Outcome
-        ensures { λ r. ⌜ leaves (answered (r .answer)) (r .state) (now (medium .entry)) (now (current .exit)) (now (first .exit)) (now (last .exit)) (now (waiting .entry)) ≡ act RecoveryStart (stateless (now (medium .entry)) (now (current .entry)) (now (first .entry)) (now (last .entry)) (now (waiting .entry))) ⌝ }
+        ensures { λ r.
+            let before = stateless (now (medium .entry)) (now (current .entry)) (now (first .entry)) (now (last .entry)) (now (waiting .entry)) in
+            let after = leaves (answered (r .answer)) (r .state) (now (medium .entry)) (now (current .exit)) (now (first .exit)) (now (last .exit)) (now (waiting .entry)) in
+            ⌜ after ≡ act RecoveryStart before ⌝ }
     {
         let start = recovery::recovery_start(medium, current, first, last, waiting);
         let numbers = start.numbers;
@@ -45,7 +48,10 @@ impl State {
     // Recovery step: the lowest cell whose table value differs from the current one is stored; if none, the head with h = l, where h < l;
     // else nothing. Refuses 1, 10.
     pub fn recovery_step(self, medium: &mut [u8], current: &[u64]) -> Stepped
-        ensures { λ r. ⌜ leaves (stepped (r .answer)) (r .state) (now (medium .exit)) (now (current .entry)) [] [] [] ≡ act RecoveryStep (handed self (now (medium .entry)) (now (current .entry)) [] [] []) ⌝ }
+        ensures { λ r.
+            let before = handed self (now (medium .entry)) (now (current .entry)) [] [] [] in
+            let after = leaves (stepped (r .answer)) (r .state) (now (medium .exit)) (now (current .entry)) [] [] [] in
+            ⌜ after ≡ act RecoveryStep before ⌝ }
     {
         let numbers = self.numbers;
         let phase = self.phase;

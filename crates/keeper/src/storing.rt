@@ -20,7 +20,10 @@ impl State {
     // Force: stores entry f+1 from the waiting rows and answers its number; with f = l it stores nothing and answers 0.
     // Refuses 1, 10, 7. Costs one row; stores that row.
     pub fn force(self, medium: &mut [u8], waiting: &[u8]) -> Outcome
-        ensures { λ r. ⌜ leaves (answered (r .answer)) (r .state) (now (medium .exit)) [] [] [] (now (waiting .entry)) ≡ act Force (handed self (now (medium .entry)) [] [] [] (now (waiting .entry))) ⌝ }
+        ensures { λ r.
+            let before = handed self (now (medium .entry)) [] [] [] (now (waiting .entry)) in
+            let after = leaves (answered (r .answer)) (r .state) (now (medium .exit)) [] [] [] (now (waiting .entry)) in
+            ⌜ after ≡ act Force before ⌝ }
     {
         let numbers = self.numbers;
         let phase = self.phase;
@@ -54,7 +57,10 @@ impl State {
         first: &mut [u32],
         last: &[u32],
     ) -> WrittenBack
-        ensures { λ r. ⌜ leaves (writtenBack (r .answer)) (r .state) (now (medium .exit)) (now (current .entry)) (now (first .exit)) (now (last .entry)) [] ≡ act (WriteBack cell) (handed self (now (medium .entry)) (now (current .entry)) (now (first .entry)) (now (last .entry)) []) ⌝ }
+        ensures { λ r.
+            let before = handed self (now (medium .entry)) (now (current .entry)) (now (first .entry)) (now (last .entry)) [] in
+            let after = leaves (writtenBack (r .answer)) (r .state) (now (medium .exit)) (now (current .entry)) (now (first .exit)) (now (last .entry)) [] in
+            ⌜ after ≡ act (WriteBack cell) before ⌝ }
     {
         let numbers = self.numbers;
         let phase = self.phase;
@@ -82,7 +88,10 @@ impl State {
 
     // Cut to p: the head is stored with h = p; p may be h. Refuses 1, 10, 9, 7, 9. Goes once over the cells' `first`; stores the head.
     pub fn cut(self, p: u32, medium: &mut [u8], first: &[u32]) -> Outcome
-        ensures { λ r. ⌜ leaves (answered (r .answer)) (r .state) (now (medium .exit)) [] (now (first .entry)) [] [] ≡ act (Cut p) (handed self (now (medium .entry)) [] (now (first .entry)) [] []) ⌝ }
+        ensures { λ r.
+            let before = handed self (now (medium .entry)) [] (now (first .entry)) [] [] in
+            let after = leaves (answered (r .answer)) (r .state) (now (medium .exit)) [] (now (first .entry)) [] [] in
+            ⌜ after ≡ act (Cut p) before ⌝ }
     {
         let numbers = self.numbers;
         let phase = self.phase;

@@ -21,7 +21,10 @@ use state::is_run;
 impl State {
     // Read: answers the cell's current value. Refuses 1, 10, 3, 4. Costs one cell.
     pub fn read(self, cell: u32, current: &[u64]) -> Outcome
-        ensures { λ r. ⌜ leaves (answered (r .answer)) (r .state) [] (now (current .entry)) [] [] [] ≡ act (Read cell) (handed self [] (now (current .entry)) [] [] []) ⌝ }
+        ensures { λ r.
+            let before = handed self [] (now (current .entry)) [] [] [] in
+            let after = leaves (answered (r .answer)) (r .state) [] (now (current .entry)) [] [] [] in
+            ⌜ after ≡ act (Read cell) before ⌝ }
     {
         let numbers = self.numbers;
         let phase = self.phase;
@@ -44,7 +47,10 @@ impl State {
         last: &mut [u32],
         waiting: &mut [u8],
     ) -> Outcome
-        ensures { λ r. ⌜ leaves (answered (r .answer)) (r .state) [] (now (current .exit)) (now (first .exit)) (now (last .exit)) (now (waiting .exit)) ≡ act (Write cell value) (handed self [] (now (current .entry)) (now (first .entry)) (now (last .entry)) (now (waiting .entry))) ⌝ }
+        ensures { λ r.
+            let before = handed self [] (now (current .entry)) (now (first .entry)) (now (last .entry)) (now (waiting .entry)) in
+            let after = leaves (answered (r .answer)) (r .state) [] (now (current .exit)) (now (first .exit)) (now (last .exit)) (now (waiting .exit)) in
+            ⌜ after ≡ act (Write cell value) before ⌝ }
     {
         let numbers = self.numbers;
         let phase = self.phase;
@@ -72,7 +78,10 @@ impl State {
     // Commit: appends the commit entry and answers its number, l+1; the transaction is durable once force has stored that entry.
     // Refuses 1, 10, 3. Costs one row.
     pub fn commit(self, waiting: &mut [u8]) -> Outcome
-        ensures { λ r. ⌜ leaves (answered (r .answer)) (r .state) [] [] [] [] (now (waiting .exit)) ≡ act Commit (handed self [] [] [] [] (now (waiting .entry))) ⌝ }
+        ensures { λ r.
+            let before = handed self [] [] [] [] (now (waiting .entry)) in
+            let after = leaves (answered (r .answer)) (r .state) [] [] [] [] (now (waiting .exit)) in
+            ⌜ after ≡ act Commit before ⌝ }
     {
         let numbers = self.numbers;
         let phase = self.phase;
@@ -94,7 +103,10 @@ impl State {
         last: &mut [u32],
         waiting: &mut [u8],
     ) -> Outcome
-        ensures { λ r. ⌜ leaves (answered (r .answer)) (r .state) [] (now (current .exit)) (now (first .exit)) (now (last .exit)) (now (waiting .exit)) ≡ act Abort (handed self [] (now (current .entry)) (now (first .entry)) (now (last .entry)) (now (waiting .entry))) ⌝ }
+        ensures { λ r.
+            let before = handed self [] (now (current .entry)) (now (first .entry)) (now (last .entry)) (now (waiting .entry)) in
+            let after = leaves (answered (r .answer)) (r .state) [] (now (current .exit)) (now (first .exit)) (now (last .exit)) (now (waiting .exit)) in
+            ⌜ after ≡ act Abort before ⌝ }
     {
         let numbers = self.numbers;
         let phase = self.phase;
@@ -118,7 +130,10 @@ impl State {
         last: &mut [u32],
         waiting: &mut [u8],
     ) -> Outcome
-        ensures { λ r. ⌜ leaves (answered (r .answer)) (r .state) [] (now (current .exit)) (now (first .exit)) (now (last .exit)) (now (waiting .exit)) ≡ act Begin (handed self [] (now (current .entry)) (now (first .entry)) (now (last .entry)) (now (waiting .entry))) ⌝ }
+        ensures { λ r.
+            let before = handed self [] (now (current .entry)) (now (first .entry)) (now (last .entry)) (now (waiting .entry)) in
+            let after = leaves (answered (r .answer)) (r .state) [] (now (current .exit)) (now (first .exit)) (now (last .exit)) (now (waiting .exit)) in
+            ⌜ after ≡ act Begin before ⌝ }
     {
         let numbers = self.numbers;
         let phase = self.phase;
@@ -144,7 +159,9 @@ impl State {
         waiting: &mut [u8],
     ) -> Outcome
         requires { ⌜ Rolling (self .numbers) (now current) (now first) (now last) (now waiting) ⌝ }
-        ensures { λ r. ⌜ leaves (answered (r .answer)) (r .state) [] (now (current .exit)) (now (first .exit)) (now (last .exit)) (now (waiting .exit)) ≡ record { answer = done 0; keeper = rolledBack (phaseOf next) (handed self [] (now (current .entry)) (now (first .entry)) (now (last .entry)) (now (waiting .entry))) } ⌝ }
+        ensures { λ r.
+            let after = leaves (answered (r .answer)) (r .state) [] (now (current .exit)) (now (first .exit)) (now (last .exit)) (now (waiting .exit)) in
+            ⌜ after ≡ record { answer = done 0; keeper = rolledBack (phaseOf next) (handed self [] (now (current .entry)) (now (first .entry)) (now (last .entry)) (now (waiting .entry))) } ⌝ }
     {
         let numbers = self.numbers;
         let l = numbers.l;

@@ -51,7 +51,9 @@ pub struct Stepped {
 
 // Whether the medium's head is in rule and the workspaces are as it says.
 fn start_fits(medium: &[u8], current: &[u64], first: &[u32], last: &[u32], waiting: &[u8]) -> bool
-    ensures { λ r. ⌜ r ≡ (headOk (now (medium .entry)) && lentStart (numberAt 4 0 (now (medium .entry))) (numberAt 4 4 (now (medium .entry))) (stateless (now (medium .entry)) (now (current .entry)) (now (first .entry)) (now (last .entry)) (now (waiting .entry)))) ⌝ }
+    ensures { λ r.
+        let after = r in
+        ⌜ after ≡ (headOk (now (medium .entry)) && lentStart (numberAt 4 0 (now (medium .entry))) (numberAt 4 4 (now (medium .entry))) (stateless (now (medium .entry)) (now (current .entry)) (now (first .entry)) (now (last .entry)) (now (waiting .entry)))) ⌝ }
 {
     let ok = head_ok(medium);
     if ok {} else {
@@ -91,7 +93,9 @@ fn no_start(number: u32) -> Started
 
 // The state after a start that counts the entries up to e.
 fn upto(cells: u32, slots: u32, h: u32, e: u32) -> Started
-    ensures { λ r. ⌜ r ≡ record { number = 0; numbers = record { cells = cells; slots = slots; h = h; f = e; l = e; o = e }; phase = Phase.Recovering } ⌝ }
+    ensures { λ r.
+        let after = r in
+        ⌜ after ≡ record { number = 0; numbers = record { cells = cells; slots = slots; h = h; f = e; l = e; o = e }; phase = Phase.Recovering } ⌝ }
 {
     Started {
         number: 0,
@@ -127,7 +131,10 @@ pub fn recovery_start(
     last: &mut [u32],
     waiting: &[u8],
 ) -> Started
-    ensures { λ r. ⌜ left (numbered (r .number)) (r .numbers) (r .phase) (now (medium .entry)) (now (current .exit)) (now (first .exit)) (now (last .exit)) (now (waiting .entry)) ≡ act RecoveryStart (stateless (now (medium .entry)) (now (current .entry)) (now (first .entry)) (now (last .entry)) (now (waiting .entry))) ⌝ }
+    ensures { λ r.
+        let before = stateless (now (medium .entry)) (now (current .entry)) (now (first .entry)) (now (last .entry)) (now (waiting .entry)) in
+        let after = left (numbered (r .number)) (r .numbers) (r .phase) (now (medium .entry)) (now (current .exit)) (now (first .exit)) (now (last .exit)) (now (waiting .entry)) in
+        ⌜ after ≡ act RecoveryStart before ⌝ }
 {
     let fit = start_fits(medium, current, first, last, waiting);
     if fit {} else {
@@ -199,7 +206,10 @@ fn step_end(numbers: Numbers, medium: &mut [u8]) -> Stepped
 // Recovery step: the lowest cell whose table value differs from the current one is stored; if none, the head with h = l, where h < l;
 // else nothing. Refuses 1, 10. Stops at the first differing cell; stores that cell or the head.
 pub fn recovery_step(numbers: Numbers, phase: Phase, medium: &mut [u8], current: &[u64]) -> Stepped
-    ensures { λ r. ⌜ left (stepped (r .answer)) (r .numbers) (r .phase) (now (medium .exit)) (now (current .entry)) [] [] [] ≡ act RecoveryStep (lentTo numbers phase (now (medium .entry)) (now (current .entry)) [] [] []) ⌝ }
+    ensures { λ r.
+        let before = lentTo numbers phase (now (medium .entry)) (now (current .entry)) [] [] [] in
+        let after = left (stepped (r .answer)) (r .numbers) (r .phase) (now (medium .exit)) (now (current .entry)) [] [] [] in
+        ⌜ after ≡ act RecoveryStep before ⌝ }
 {
     let no = step_refusal(numbers, phase, medium, current);
     if no != 0 {

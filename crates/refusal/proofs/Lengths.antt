@@ -27,10 +27,10 @@ pub rows-fit : (n : Numbers) (p : code.Phase) (rows : List ℕ) (base x : ℕ) �
 rows-fit n p rows base x s h i = omega arith
 
 module _ (cells slots : ℕ) (current first last waiting : List ℕ) where
-  pub desk-fits : (d : Bool)
+  pub workspaces-fit : (d : Bool)
       → d ≡ (eqb (length current) cells && (eqb (length first) cells && (eqb (length last) cells && eqb (length waiting) (32 * slots)))) → d ≡ true
       → (length current ≡ cells) × (length first ≡ cells) × (length last ≡ cells) × (length waiting ≡ 32 * slots)
-  desk-fits d e z = let q = sym e ∙ z in (search tests, search tests, search tests, search tests)
+  workspaces-fit d e z = let q = sym e ∙ z in (search tests, search tests, search tests, search tests)
 
 pub pair-fits : (n : Numbers) (m waiting : List ℕ) (a b f : Bool) → a ≡ eqb (length m) (mediumLength (n .cells) (n .slots)) → b ≡ eqb (length waiting) (32 * n .slots)
     → f ≡ (a && b) → f ≡ true → (length m ≡ 32 + 32 * n .slots + 8 * n .cells) × (length waiting ≡ 32 * n .slots)

@@ -19,8 +19,8 @@ use Rattle.state.specs.State.{phaseOf, stateOf}
 use Rattle.state.specs.declared.Numbers.{Numbers}
 use Rattle.state.specs.declared.Phase as code
 use Rattle.journal.specs.Entries.{entryIn}
-use Rattle.workspace.specs.Desk.{updatesFrom}
-use Rattle.workspace.proofs.Desks.{updates-keeper, waiting-entry}
+use Rattle.workspace.specs.Values.{updatesFrom}
+use Rattle.workspace.proofs.Alike.{updates-keeper, waiting-entry}
 use Rattle.state.specs.Lent.{lentTo}
 use Rattle.refusal.specs.Rows.{notUpdatesIn, movedNo}
 

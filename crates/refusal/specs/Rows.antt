@@ -11,7 +11,7 @@ use Rattle.state.specs.State.{phaseOf}
 use Rattle.state.specs.declared.Numbers.{Numbers}
 use Rattle.state.specs.declared.Phase.{Phase}
 use Rattle.journal.specs.Entries.{entryIn}
-use Rattle.workspace.specs.Desk.{updatesFrom}
+use Rattle.workspace.specs.Values.{updatesFrom}
 
 -- in run a waiting row of o+1 to l isn't that update
 unfoldable pub notUpdatesIn : Numbers → Phase → List ℕ → Bool

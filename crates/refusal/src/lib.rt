@@ -55,7 +55,7 @@ pub fn write(
 ) -> u32
     ensures { λ r. ⌜ ((v : ℕ) → r ≡ refusal (Write cell v) (lentTo numbers phase [] (now (current .entry)) (now (first .entry)) (now (last .entry)) (now (waiting .entry)))) ⌝ }
 {
-    let lent = numbers.fits_desk(current.len(), first.len(), last.len(), waiting.len());
+    let lent = numbers.fits_workspaces(current.len(), first.len(), last.len(), waiting.len());
     let fit = both(numbers.sound(phase), lent);
     if fit {} else {
         return 1;
@@ -120,13 +120,15 @@ pub fn abort(
     last: &[u32],
     waiting: &[u8],
 ) -> u32
-    ensures { λ r. ⌜ r ≡ refusal Abort (lentTo numbers phase [] (now (current .entry)) (now (first .entry)) (now (last .entry)) (now (waiting .entry))) ⌝ }
+    ensures { λ r.
+        let after = r in
+        ⌜ after ≡ refusal Abort (lentTo numbers phase [] (now (current .entry)) (now (first .entry)) (now (last .entry)) (now (waiting .entry))) ⌝ }
 {
     let good = numbers.sound(phase);
     if good {} else {
         return 1;
     }
-    let lent = numbers.fits_desk(current.len(), first.len(), last.len(), waiting.len());
+    let lent = numbers.fits_workspaces(current.len(), first.len(), last.len(), waiting.len());
     if lent {} else {
         return 1;
     }
@@ -145,9 +147,11 @@ pub fn begin(
     last: &[u32],
     waiting: &[u8],
 ) -> u32
-    ensures { λ r. ⌜ r ≡ refusal Begin (lentTo numbers phase [] (now (current .entry)) (now (first .entry)) (now (last .entry)) (now (waiting .entry))) ⌝ }
+    ensures { λ r.
+        let after = r in
+        ⌜ after ≡ refusal Begin (lentTo numbers phase [] (now (current .entry)) (now (first .entry)) (now (last .entry)) (now (waiting .entry))) ⌝ }
 {
-    let lent = numbers.fits_desk(current.len(), first.len(), last.len(), waiting.len());
+    let lent = numbers.fits_workspaces(current.len(), first.len(), last.len(), waiting.len());
     let fit = both(numbers.sound(phase), lent);
     if fit {} else {
         return 1;
@@ -205,7 +209,9 @@ pub fn write_back(
     first: &[u32],
     last: &[u32],
 ) -> u32
-    ensures { λ r. ⌜ r ≡ refusal (WriteBack cell) (lentTo numbers phase (now (medium .entry)) (now (current .entry)) (now (first .entry)) (now (last .entry)) []) ⌝ }
+    ensures { λ r.
+        let after = r in
+        ⌜ after ≡ refusal (WriteBack cell) (lentTo numbers phase (now (medium .entry)) (now (current .entry)) (now (first .entry)) (now (last .entry)) []) ⌝ }
 {
     let values = both(
         numbers.fits_cells(first.len()),

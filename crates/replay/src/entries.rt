@@ -82,7 +82,9 @@ fn replay_entry(
 // more over each undone one.
 pub fn replay(medium: &[u8], slots: u32, cells: u32, h: u32, e: u32, current: &mut [u64]) -> bool
     requires { ⌜ (Rows (now medium) 32 slots 1) × ((length (now current) ≡ cells) × (h ≤ e)) ⌝ }
-    ensures { λ r. ⌜ replayed r (now (current .exit)) ≡ replayFrom (entryIn (now (medium .entry)) 32 slots cells) (e - h) h h (now (current .entry)) ⌝ }
+    ensures { λ r.
+        let after = replayed r (now (current .exit)) in
+        ⌜ after ≡ replayFrom (entryIn (now (medium .entry)) 32 slots cells) (e - h) h h (now (current .entry)) ⌝ }
 {
     let mut n = h;
     let mut s = h;

@@ -75,7 +75,7 @@ shut-refused a x k (inr e) = go (unfit a k) refl
   where
     go : (b : Bool) → unfit a k ≡ b → (n : ℕ) × (refusal a k ≡ suc n)
     go true q = (0, first-refusal a k 1 (first-two a x k 1 (inl (q, refl))))
-    go false q = (9, first-refusal a k 10 (first-two a x k 10 (inr (q, unfold isRecovering in ap isRecovering e, refl))))
+    go false q = (9, first-refusal a k 10 (first-two a x k 10 (inr (q, ap isRecovering e, refl))))
 
 -- a step that does not end recovery
 step-stays : (k : Keeper) (o : Option ℕ) → k .state .phase ≡ recovering → ended (stepAt o k .answer) ≡ false → Shut (stepAt o k .keeper .state)

@@ -7,7 +7,7 @@ use native.Mathlib.Omega.{arith}
 use borrow.Author.Tests.{ltb-true, lt-ltb}
 use Rattle.scope.specs.Bytes.{maxNo}
 use Rattle.scope.specs.Keeper.{idle, run, State, sound}
-use Rattle.scope.specs.Refusals.{openCount, full, usedUp}
+use Rattle.scope.specs.Refusals.{full, usedUp}
 use Rattle.scope.proofs.Sound.{Sound, sound-facts}
 
 -- a test holds exactly when
@@ -19,7 +19,7 @@ module _ (s : State) (ok : sound s ≡ true) where
   S = sound-facts s ok
 
   pub full-idle : s .phase ≡ idle → When (full s) (s .l - s .h ≡ s .slots)
-  unfolding full openCount
+  unfolding full
   full-idle e =
       rw e (
         (λ q. omega (arith, S .room, ltb-true (s .slots) (s .l - s .h + 0 + 1) q)),
@@ -27,7 +27,7 @@ module _ (s : State) (ok : sound s ≡ true) where
       )
 
   pub full-run : s .phase ≡ run → When (full s) (s .slots - 2 < s .l - s .h)
-  unfolding full openCount
+  unfolding full
   full-run e =
       rw e (
         (λ q. omega (arith, S .slots≥, ltb-true (s .slots) (s .l - s .h + 1 + 1) q)),
@@ -35,7 +35,7 @@ module _ (s : State) (ok : sound s ≡ true) where
       )
 
   pub usedUp-idle : s .phase ≡ idle → When (usedUp s) (s .l ≡ 4294967295)
-  unfolding usedUp openCount maxNo
+  unfolding usedUp maxNo
   usedUp-idle e =
       rw e (
         (λ q. omega (arith, S .l≤M, ltb-true 4294967295 (s .l + 0 + 1) q)),
@@ -43,7 +43,7 @@ module _ (s : State) (ok : sound s ≡ true) where
       )
 
   pub usedUp-run : s .phase ≡ run → When (usedUp s) (4294967295 - 2 < s .l)
-  unfolding usedUp openCount maxNo
+  unfolding usedUp maxNo
   usedUp-run e =
       rw e (
         (λ q. omega (arith, ltb-true 4294967295 (s .l + 1 + 1) q)),

@@ -1,2 +1,2 @@
-pub mod Desks
+pub mod Alike
 pub mod Restoring

@@ -13,7 +13,7 @@ use lib.Seq.{drop-cons}
 use Rattle.scope.specs.Row.{Entry, update, commitEntry, abortEntry, isUpdate}
 use Rattle.scope.specs.Keeper.{firstMark}
 use Rattle.scope.specs.Refusals.{anyFirst}
-use Rattle.workspace.specs.Desk.{Desk, desk, assigned, restored, rolledFrom, updatesFrom}
+use Rattle.workspace.specs.Values.{Values, values, assigned, restored, rolledFrom, updatesFrom}
 
 -- marks and assignments
 
@@ -26,34 +26,34 @@ unfolding firstMark
 mark-kept old n h = simp (ne-eqb old 0 h)
 
 pub assign-is : (current first last : List ℕ) (at c v n mark : ℕ) → at ≡ c → mark ≡ firstMark (getD first at 0) n
-    → desk (set current at v) (set first at mark) (set last at n) ≡ assigned n c v (desk current first last)
-unfolding assigned desk
+    → values (set current at v) (set first at mark) (set last at n) ≡ assigned n c v (values current first last)
+unfolding assigned values
 assign-is current first last at c v n mark p q = rw (q, p)
 
 -- one row restored
 
-pub restore-other : (n : ℕ) (o : Option Entry) (d : Desk) → false ≡ isUpdate o → d ≡ restored n o d
+pub restore-other : (n : ℕ) (o : Option Entry) (d : Values) → false ≡ isUpdate o → d ≡ restored n o d
 unfolding restored
 restore-other n none d h = refl
 restore-other n (some (update c a b)) d h = absurd (false≢true h)
 restore-other n (some commitEntry) d h = refl
 restore-other n (some abortEntry) d h = refl
 
-pub restore-update : (n : ℕ) (o : Option Entry) (d d′ : Desk) (c a b : ℕ) → some (update c a b) ≡ o → d′ ≡ assigned n c a d → d′ ≡ restored n o d
+pub restore-update : (n : ℕ) (o : Option Entry) (d d′ : Values) (c a b : ℕ) → some (update c a b) ≡ o → d′ ≡ assigned n c a d → d′ ≡ restored n o d
 unfolding restored
 restore-update n o d d′ c a b p q = q ∙ ap (λ x. restored n x d) p
 
 -- the loops
 
-module _ (e : ℕ → Option Entry) (n o : ℕ) (D : Desk) where
-  rolled-suc : (j k m : ℕ) (d : Desk) → j ≡ suc k → rolledFrom e n j m d ≡ rolledFrom e n k (m - 1) (restored n (e m) d)
+module _ (e : ℕ → Option Entry) (n o : ℕ) (D : Values) where
+  rolled-suc : (j k m : ℕ) (d : Values) → j ≡ suc k → rolledFrom e n j m d ≡ rolledFrom e n k (m - 1) (restored n (e m) d)
   unfolding rolledFrom
   rolled-suc j k m d h = rw h
 
-  pub roll-again : (m : ℕ) (d d′ : Desk) → D ≡ rolledFrom e n (m - o) m d → o < m → d′ ≡ restored n (e m) d → D ≡ rolledFrom e n (m - 1 - o) (m - 1) d′
+  pub roll-again : (m : ℕ) (d d′ : Values) → D ≡ rolledFrom e n (m - o) m d → o < m → d′ ≡ restored n (e m) d → D ≡ rolledFrom e n (m - 1 - o) (m - 1) d′
   roll-again m d d′ p h q = let z : m - o ≡ suc (m - 1 - o) = omega arith in p ∙ rolled-suc (m - o) (m - 1 - o) m d z ∙ rw q
 
-  pub roll-end : (m : ℕ) (d : Desk) → D ≡ rolledFrom e n (m - o) m d → m ≤ o → d ≡ D
+  pub roll-end : (m : ℕ) (d : Values) → D ≡ rolledFrom e n (m - o) m d → m ≤ o → d ≡ D
   unfolding rolledFrom
   roll-end m d p h = let z : m - o ≡ 0 = omega arith in sym (p ∙ rw z)
 

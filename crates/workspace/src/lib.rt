@@ -7,7 +7,7 @@ ghost use Rattle.scope.specs.Row.{isUpdate};
 ghost use Rattle.scope.specs.Keeper.{firstMark};
 ghost use Rattle.scope.specs.Refusals.{anyFirst};
 ghost use Rattle.journal.specs.Entries.{Rows, entryIn};
-ghost use Rattle.workspace.specs.Desk.{desk, Fits, assigned, restored, rolledFrom, updatesFrom};
+ghost use Rattle.workspace.specs.Values.{values, Fits, assigned, restored, rolledFrom, updatesFrom};
 use journal::entry_at;
 use medium::layout::index;
 use row::Entry;
@@ -30,7 +30,9 @@ pub fn assign(
     n: u32,
 )
     requires { ⌜ (cell < length (now current)) × ((cell < length (now first)) × (cell < length (now last))) ⌝ }
-    ensures { λ _. ⌜ desk (now (current .exit)) (now (first .exit)) (now (last .exit)) ≡ assigned n cell value (desk (now (current .entry)) (now (first .entry)) (now (last .entry))) ⌝ }
+    ensures { λ _.
+        let after = values (now (current .exit)) (now (first .exit)) (now (last .exit)) in
+        ⌜ after ≡ assigned n cell value (values (now (current .entry)) (now (first .entry)) (now (last .entry))) ⌝ }
 {
     let at = index(cell);
     current[at] = value;
@@ -50,7 +52,9 @@ fn restore(
     last: &mut [u32],
 )
     requires { ⌜ (Rows (now waiting) 0 slots m) × (Fits cells (now current) (now first) (now last)) ⌝ }
-    ensures { λ _. ⌜ desk (now (current .exit)) (now (first .exit)) (now (last .exit)) ≡ restored n (entryIn (now (waiting .entry)) 0 slots cells m) (desk (now (current .entry)) (now (first .entry)) (now (last .entry))) ⌝ }
+    ensures { λ _.
+        let after = values (now (current .exit)) (now (first .exit)) (now (last .exit)) in
+        ⌜ after ≡ restored n (entryIn (now (waiting .entry)) 0 slots cells m) (values (now (current .entry)) (now (first .entry)) (now (last .entry))) ⌝ }
 {
     let Row::Holds(what) = entry_at(waiting, 0, slots, cells, m) else {
         return;
@@ -74,7 +78,9 @@ pub fn rollback(
     last: &mut [u32],
 )
     requires { ⌜ (Rows (now waiting) 0 slots 1) × (Fits cells (now current) (now first) (now last)) ⌝ }
-    ensures { λ _. ⌜ desk (now (current .exit)) (now (first .exit)) (now (last .exit)) ≡ rolledFrom (entryIn (now (waiting .entry)) 0 slots cells) n (l - o) l (desk (now (current .entry)) (now (first .entry)) (now (last .entry))) ⌝ }
+    ensures { λ _.
+        let after = values (now (current .exit)) (now (first .exit)) (now (last .exit)) in
+        ⌜ after ≡ rolledFrom (entryIn (now (waiting .entry)) 0 slots cells) n (l - o) l (values (now (current .entry)) (now (first .entry)) (now (last .entry))) ⌝ }
 {
     let mut m = l;
     while o < m {

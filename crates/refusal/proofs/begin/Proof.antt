@@ -2,14 +2,14 @@
 use borrow.Author.Needs.{needs}
 use mathlib.Core.Path.{refl, sym, _∙_}
 use native.Mathlib.Omega.{arith}
-use Rattle.refusal.proofs.Lengths.{is-sound, is-lent, rows-fit, desk-fits}
+use Rattle.refusal.proofs.Lengths.{is-sound, is-lent, rows-fit, workspaces-fit}
 use Rattle.state.proofs.Exits.{unfit-stop, fit-pass, stop, pass}
 use Rattle.refusal.proofs.Tables.{abort-early, abort-late, begin-early, begin-late}
 use Rattle.refusal.proofs.begin.Statement.{statement}
 use Rattle.refusal.proofs.begin.Tie as tie
 
 returns : tie.Need-returns
-returns c = begin-early _ _ _ _ _ _ 1 (abort-early _ _ _ _ _ (c .before .before .sound .ensures) refl _ _ _ _ _ (c .before .before .before .fits-desk .ensures) (c .before .both .ensures) 1 (unfit-stop _ _ (c .if1 .left)) (λ z. omega arith)) (λ z. omega arith)
+returns c = begin-early _ _ _ _ _ _ 1 (abort-early _ _ _ _ _ (c .before .before .sound .ensures) refl _ _ _ _ _ (c .before .before .before .fits-workspaces .ensures) (c .before .both .ensures) 1 (unfit-stop _ _ (c .if1 .left)) (λ z. omega arith)) (λ z. omega arith)
 
 returns-2 : tie.Need-returns-2
 returns-2 c =
@@ -17,7 +17,7 @@ returns-2 c =
     let p3 = p2 .before in
     let p4 = p3 .before in
     let p5 = p4 .before in
-    begin-early _ _ _ _ _ _ 10 (abort-early _ _ _ _ _ (p4 .sound .ensures) refl _ _ _ _ _ (p5 .fits-desk .ensures) (p3 .both .ensures) 10 (fit-pass _ 10 _ (p2 .if1 .taken) (stop _ 10 0 (sym (c .before .is-recovering .ensures) ∙ (c .if2 .taken)))) (λ z. omega arith)) (λ z. omega arith)
+    begin-early _ _ _ _ _ _ 10 (abort-early _ _ _ _ _ (p4 .sound .ensures) refl _ _ _ _ _ (p5 .fits-workspaces .ensures) (p3 .both .ensures) 10 (fit-pass _ 10 _ (p2 .if1 .taken) (stop _ 10 0 (sym (c .before .is-recovering .ensures) ∙ (c .if2 .taken)))) (λ z. omega arith)) (λ z. omega arith)
 
 not-updates-requires : tie.Need-not-updates-requires
 not-updates-requires c κs =
@@ -27,7 +27,7 @@ not-updates-requires c κs =
     let p5 = p4 .before in
     let p10 = p5 .before .before .before .before .before in
     let a = p10 .args in
-    let s = is-sound (a .numbers) (a .phase) _ _ _ (p4 .sound .ensures) (p3 .both .ensures) (p2 .if1 .taken) in let d = desk-fits (a .numbers .cells) (a .numbers .slots) (a .current .now) (a .first .now) (a .last .now) (a .waiting .now) _ (p5 .fits-desk .ensures) (is-lent _ _ _ _ _ (p4 .sound .ensures) (p3 .both .ensures) (p2 .if1 .taken)) in rows-fit _ _ _ 0 1 s (omega arith) (omega arith)
+    let s = is-sound (a .numbers) (a .phase) _ _ _ (p4 .sound .ensures) (p3 .both .ensures) (p2 .if1 .taken) in let d = workspaces-fit (a .numbers .cells) (a .numbers .slots) (a .current .now) (a .first .now) (a .last .now) (a .waiting .now) _ (p5 .fits-workspaces .ensures) (is-lent _ _ _ _ _ (p4 .sound .ensures) (p3 .both .ensures) (p2 .if1 .taken)) in rows-fit _ _ _ 0 1 s (omega arith) (omega arith)
 
 returns-3 : tie.Need-returns-3
 returns-3 c =
@@ -37,7 +37,7 @@ returns-3 c =
     let p5 = p4 .before in
     let p6 = p5 .before in
     let p7 = p6 .before in
-    begin-early _ _ _ _ _ _ 7 (abort-late _ _ _ _ _ (p6 .sound .ensures) refl _ _ _ _ _ (p7 .fits-desk .ensures) (p5 .both .ensures) 0 7 _ (fit-pass _ 0 _ (p4 .if1 .taken) (pass _ 10 0 0 (sym (p3 .is-recovering .ensures) ∙ (p2 .if2 .left)) refl)) refl (c .before .not-updates .ensures) (stop _ 7 0 (c .if3 .taken))) (λ z. omega arith)
+    begin-early _ _ _ _ _ _ 7 (abort-late _ _ _ _ _ (p6 .sound .ensures) refl _ _ _ _ _ (p7 .fits-workspaces .ensures) (p5 .both .ensures) 0 7 _ (fit-pass _ 0 _ (p4 .if1 .taken) (pass _ 10 0 0 (sym (p3 .is-recovering .ensures) ∙ (p2 .if2 .left)) refl)) refl (c .before .not-updates .ensures) (stop _ 7 0 (c .if3 .taken))) (λ z. omega arith)
 
 returns-4 : tie.Need-returns-4
 returns-4 c =
@@ -49,7 +49,7 @@ returns-4 c =
     let p7 = p6 .before in
     let p8 = p7 .before in
     let p9 = p8 .before in
-    begin-late _ _ _ _ _ _ 0 5 _ _ _ (abort-late _ _ _ _ _ (p8 .sound .ensures) refl _ _ _ _ _ (p9 .fits-desk .ensures) (p7 .both .ensures) 0 0 _ (fit-pass _ 0 _ (p6 .if1 .taken) (pass _ 10 0 0 (sym (p5 .is-recovering .ensures) ∙ (p4 .if2 .left)) refl)) refl (p3 .not-updates .ensures) (pass _ 7 0 0 (p2 .if3 .left) refl)) refl (c .before .full .ensures) refl refl (stop _ 5 _ (c .if4 .taken))
+    begin-late _ _ _ _ _ _ 0 5 _ _ _ (abort-late _ _ _ _ _ (p8 .sound .ensures) refl _ _ _ _ _ (p9 .fits-workspaces .ensures) (p7 .both .ensures) 0 0 _ (fit-pass _ 0 _ (p6 .if1 .taken) (pass _ 10 0 0 (sym (p5 .is-recovering .ensures) ∙ (p4 .if2 .left)) refl)) refl (p3 .not-updates .ensures) (pass _ 7 0 0 (p2 .if3 .left) refl)) refl (c .before .full .ensures) refl refl (stop _ 5 _ (c .if4 .taken))
 
 returns-5 : tie.Need-returns-5
 returns-5 c =
@@ -63,7 +63,7 @@ returns-5 c =
     let p9 = p8 .before in
     let p10 = p9 .before in
     let p11 = p10 .before in
-    begin-late _ _ _ _ _ _ 0 6 _ _ _ (abort-late _ _ _ _ _ (p10 .sound .ensures) refl _ _ _ _ _ (p11 .fits-desk .ensures) (p9 .both .ensures) 0 0 _ (fit-pass _ 0 _ (p8 .if1 .taken) (pass _ 10 0 0 (sym (p7 .is-recovering .ensures) ∙ (p6 .if2 .left)) refl)) refl (p5 .not-updates .ensures) (pass _ 7 0 0 (p4 .if3 .left) refl)) refl (p3 .full .ensures) (c .before .used-up .ensures) (stop _ 6 0 (c .if5 .taken)) (pass _ 5 6 _ (p2 .if4 .left) refl)
+    begin-late _ _ _ _ _ _ 0 6 _ _ _ (abort-late _ _ _ _ _ (p10 .sound .ensures) refl _ _ _ _ _ (p11 .fits-workspaces .ensures) (p9 .both .ensures) 0 0 _ (fit-pass _ 0 _ (p8 .if1 .taken) (pass _ 10 0 0 (sym (p7 .is-recovering .ensures) ∙ (p6 .if2 .left)) refl)) refl (p5 .not-updates .ensures) (pass _ 7 0 0 (p4 .if3 .left) refl)) refl (p3 .full .ensures) (c .before .used-up .ensures) (stop _ 6 0 (c .if5 .taken)) (pass _ 5 6 _ (p2 .if4 .left) refl)
 
 returns-6 : tie.Need-returns-6
 returns-6 c =
@@ -77,7 +77,7 @@ returns-6 c =
     let p9 = p8 .before in
     let p10 = p9 .before in
     let p11 = p10 .before in
-    begin-late _ _ _ _ _ _ 0 0 _ _ _ (abort-late _ _ _ _ _ (p10 .sound .ensures) refl _ _ _ _ _ (p11 .fits-desk .ensures) (p9 .both .ensures) 0 0 _ (fit-pass _ 0 _ (p8 .if1 .taken) (pass _ 10 0 0 (sym (p7 .is-recovering .ensures) ∙ (p6 .if2 .left)) refl)) refl (p5 .not-updates .ensures) (pass _ 7 0 0 (p4 .if3 .left) refl)) refl (p3 .full .ensures) (c .before .used-up .ensures) (pass _ 6 0 0 (c .if5 .left) refl) (pass _ 5 0 _ (p2 .if4 .left) refl)
+    begin-late _ _ _ _ _ _ 0 0 _ _ _ (abort-late _ _ _ _ _ (p10 .sound .ensures) refl _ _ _ _ _ (p11 .fits-workspaces .ensures) (p9 .both .ensures) 0 0 _ (fit-pass _ 0 _ (p8 .if1 .taken) (pass _ 10 0 0 (sym (p7 .is-recovering .ensures) ∙ (p6 .if2 .left)) refl)) refl (p5 .not-updates .ensures) (pass _ 7 0 0 (p4 .if3 .left) refl)) refl (p3 .full .ensures) (c .before .used-up .ensures) (pass _ 6 0 0 (c .if5 .left) refl) (pass _ 5 0 _ (p2 .if4 .left) refl)
 
 pub begin-spec : {M : Type 1} → statement M
 begin-spec =

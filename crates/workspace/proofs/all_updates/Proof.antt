@@ -5,7 +5,7 @@ use mathlib.Core.Path.{_≡_, refl}
 use native.Mathlib.Omega.{arith}
 use Rattle.journal.specs.Entries.{entryIn}
 use Rattle.workspace.proofs.Restoring.{updates-again, updates-stop, updates-end}
-use Rattle.workspace.specs.Desk.{updatesFrom}
+use Rattle.workspace.specs.Values.{updatesFrom}
 use Rattle.workspace.proofs.all_updates.Statement.{statement}
 use Rattle.workspace.proofs.all_updates.Tie as tie
 

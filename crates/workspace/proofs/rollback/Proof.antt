@@ -5,14 +5,14 @@ use mathlib.Core.Path.{_≡_, refl}
 use native.Mathlib.Omega.{arith}
 use Rattle.journal.specs.Entries.{entryIn}
 use Rattle.workspace.proofs.Restoring.{roll-again, roll-end}
-use Rattle.workspace.specs.Desk.{desk, Fits, rolledFrom}
+use Rattle.workspace.specs.Values.{values, Fits, rolledFrom}
 use Rattle.workspace.proofs.rollback.Statement.{statement}
 use Rattle.workspace.proofs.rollback.Tie as tie
 
 abbrev Inv-loop : tie.InvT-loop
 Inv-loop waiting slots cells o l n current₀ first₀ last₀ m₀ current first last m =
     Fits cells current first last × (m ≤ l)
-    × (rolledFrom (entryIn waiting 0 slots cells) n (l - o) l (desk current₀ first₀ last₀) ≡ rolledFrom (entryIn waiting 0 slots cells) n (m - o) m (desk current first last))
+    × (rolledFrom (entryIn waiting 0 slots cells) n (l - o) l (values current₀ first₀ last₀) ≡ rolledFrom (entryIn waiting 0 slots cells) n (m - o) m (values current first last))
 
 abbrev μ-loop : tie.MeasureT-loop
 μ-loop waiting slots cells o l n current₀ first₀ last₀ m₀ current first last m = m

@@ -1,4 +1,4 @@
--- `keeper::State::roll_back` meets its contract. An entry appended, and the rows restored on the desk alone.
+-- `keeper::State::roll_back` meets its contract. An entry appended, and the rows restored on the values alone.
 use borrow.Author.Needs.{needs}
 use mathlib.Core.Path.{refl}
 use Rattle.keeper.proofs.Transactions.{roll-done}

@@ -1,5 +1,5 @@
 -- Current values, `first` and `last`, as the loops over waiting rows change them. The calls' contracts cite the papers' definitions;
--- proofs/Desks.antt shows that these say the same.
+-- proofs/Alike.antt shows that these say the same.
 use Prim.Native.Nat.{ℕ, zero, suc, _-_}
 use mathlib.Core.Path.{_≡_}
 use mathlib.Core.Bool.{Bool, true, _&&_}
@@ -9,13 +9,13 @@ use lib.ListN.{length, getD, set}
 use Rattle.scope.specs.Row.{Entry, update, commitEntry, abortEntry, isUpdate}
 use Rattle.scope.specs.Keeper.{firstMark}
 
-pub record Desk : Type 0 where
+pub record Values : Type 0 where
   pub current : List ℕ
   pub first : List ℕ
   pub last : List ℕ
 
-unfoldable pub desk : List ℕ → List ℕ → List ℕ → Desk
-desk current first last = record { current = current; first = first; last = last }
+unfoldable pub values : List ℕ → List ℕ → List ℕ → Values
+values current first last = record { current = current; first = first; last = last }
 
 -- all three have a place for each cell
 pub record Fits (cells : ℕ) (current first last : List ℕ) : Type 0 where
@@ -24,18 +24,18 @@ pub record Fits (cells : ℕ) (current first last : List ℕ) : Type 0 where
   pub in-last : length last ≡ cells
 
 -- cell c gets the value v by entry n
-unfoldable pub assigned : ℕ → ℕ → ℕ → Desk → Desk
-assigned n c v d = desk (set (d .current) c v) (set (d .first) c (firstMark (getD (d .first) c 0) n)) (set (d .last) c n)
+unfoldable pub assigned : ℕ → ℕ → ℕ → Values → Values
+assigned n c v d = values (set (d .current) c v) (set (d .first) c (firstMark (getD (d .first) c 0) n)) (set (d .last) c n)
 
 -- an update's old value restored, by entry n
-unfoldable pub restored : ℕ → Option Entry → Desk → Desk
+unfoldable pub restored : ℕ → Option Entry → Values → Values
 restored n (some (update c old new)) d = assigned n c old d
 restored n (some commitEntry) d = d
 restored n (some abortEntry) d = d
 restored n none d = d
 
 -- the updates of the `count` entries that end with m restored, in falling order, by entry n
-unfoldable pub rolledFrom : (ℕ → Option Entry) → ℕ → ℕ → ℕ → Desk → Desk
+unfoldable pub rolledFrom : (ℕ → Option Entry) → ℕ → ℕ → ℕ → Values → Values
 rolledFrom e n zero m d = d
 rolledFrom e n (suc count) m d = rolledFrom e n count (m - 1) (restored n (e m) d)
 
