@@ -1,0 +1,4 @@
+pub mod Tried
+pub mod Chosen
+pub mod Answers
+pub mod Spans
