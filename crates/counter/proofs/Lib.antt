@@ -2,3 +2,4 @@ pub mod Tried
 pub mod Chosen
 pub mod Answers
 pub mod Spans
+pub mod OnMedia

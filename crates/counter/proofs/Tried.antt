@@ -2,9 +2,10 @@
 -- in hand, and both sides of each refusal.
 use Prim.Native.Nat.{ℕ, _+_, _*_}
 use mathlib.Core.Path.{_≡_, refl}
-use mathlib.Core.List.{List, [], _∷_}
+use mathlib.Core.List.{List, [], _∷_, _++_}
+use lib.ListN.{replicate}
 use Rattle.scope.specs.Bytes.{bytesOf, numberOf, numberAt}
-use Rattle.scope.specs.Keeper.{headOk, inRange, mediumLength, cellsOf}
+use Rattle.scope.specs.Keeper.{headOk, inRange, mediumLength, headBytes, cellsOf}
 use Rattle.scope.specs.Recovery.{tableOf}
 use Rattle.counter.specs.declared.Order.{Order}
 use Rattle.counter.specs.declared.Order.the-variants as order
@@ -44,3 +45,17 @@ pub mixed-hands : handIn mixed 0 6 5 ∷ handIn mixed 0 4 5 ∷ handIn mixed 0 6
     ≡ hand.Equal ∷ hand.Older ∷ hand.Equal ∷ hand.NotListed ∷ hand.Older ∷ hand.NotListed ∷ []
 unfolding handIn against bestIn bestFrom withCell better counts partNumber release major minor
 mixed-hands = refl
+
+-- a medium with the garage's two cells, and both sides of each refusal: an empty span at N is 12, one cell more is 4, and so is a sum past 32 bits; 1 is said before 4
+abbrev medium : List ℕ
+medium = headBytes 2 4 0 ++ replicate 128 0 ++ bytesOf 8 (value 40017 1 9) ++ bytesOf 8 (value 40052 1 10)
+
+pub medium-orders : cellToOrder medium 0 2 ∷ cellToOrder medium 0 1 ∷ cellToOrder medium 2 0 ∷ cellToOrder medium 1 2 ∷ cellToOrder medium 3 0 ∷ cellToOrder medium 4294967295 2 ∷ cellToOrder (7 ∷ medium) 3 0 ∷ []
+    ≡ order.Cell 1 (value 40052 1 10) ∷ order.Cell 0 (value 40017 1 9) ∷ order.Refused 12 ∷ order.Refused 4 ∷ order.Refused 4 ∷ order.Refused 4 ∷ order.Refused 1 ∷ []
+unfolding cellToOrder spanRefusal headOk inRange mediumLength numberAt numberOf tableIn tableOf cellsOf headBytes bytesOf orderIn bestIn bestFrom withCell better counts release major minor
+medium-orders = refl
+
+pub medium-hands : partInHand medium 0 2 40017 ∷ partInHand medium 2 0 40017 ∷ partInHand medium 1 2 40017 ∷ partInHand [] 1 2 40017 ∷ []
+    ≡ hand.Older ∷ hand.Refused 12 ∷ hand.Refused 4 ∷ hand.Refused 1 ∷ []
+unfolding partInHand spanRefusal headOk inRange mediumLength numberAt numberOf tableIn tableOf cellsOf headBytes bytesOf handIn against bestIn bestFrom withCell better counts partNumber release major minor
+medium-hands = refl

@@ -2,13 +2,22 @@
 use Prim.Native.Nat.{ℕ, _+_, _≤_, _<_}
 use mathlib.Core.Path.{_≡_}
 use mathlib.Core.Logic.{_⊎_, _≢_}
+use mathlib.Core.Bool.{true, false}
 use mathlib.Core.List.{List}
+use lib.Dec.{leb}
 use lib.ListN.{getD}
+use Rattle.scope.specs.Bytes.{pick, numberAt}
+use Rattle.scope.specs.Keeper.{Keeper, headOk}
+use Rattle.scope.specs.Refusals.{RecoveryStep}
+use Rattle.scope.specs.Calls.{act}
+use Rattle.scope.specs.History.{Event, History, now, wanted}
+use Rattle.scope.specs.Demands.{ended}
+use Rattle.recovered.specs.Recovered.{recovered}
 use Rattle.counter.specs.declared.Order.{Order}
 use Rattle.counter.specs.declared.Order.the-variants as order
 use Rattle.counter.specs.declared.Hand.{Hand}
 use Rattle.counter.specs.declared.Hand.the-variants as hand
-use Rattle.counter.specs.Counter.{partNumber, major, minor}
+use Rattle.counter.specs.Counter.{partNumber, major, minor, orderUnless, handUnless, orderIn, handIn, cellToOrder, partInHand}
 
 -- v's release is above w's: "major then minor as numbers", so 1.10 is above 1.9, and 2.0 above 1.65535
 abbrev pub Above : ℕ → ℕ → Type 0
@@ -54,3 +63,36 @@ HandSays t lowest count p hand.Older =
 HandSays t lowest count p hand.NotListed =
     (c : ℕ) × ToOrder t lowest count c × ((j : ℕ) → Lists t lowest count p j → ⊥)
 HandSays t lowest count p (hand.Refused n) = (n ≡ 12) × AllEmpty t lowest count
+
+-- on a medium: 1 says that its head is out of rule; 4 that it is in rule, and lowest plus count above N; any other answer says that the span lies in the table, and what
+-- it says of it
+abbrev pub OnMedium : {A : Type 0} → List ℕ → ℕ → ℕ → (ℕ → A) → (A → Type 0) → A → Type 0
+OnMedium m lowest count refused Says a =
+    ((headOk m ≡ false) × (a ≡ refused 1))
+    ⊎ (((headOk m ≡ true) × (numberAt 4 0 m < lowest + count) × (a ≡ refused 4))
+    ⊎ ((headOk m ≡ true) × (lowest + count ≤ numberAt 4 0 m) × Says a))
+
+-- the answers for a table of n cells
+unfoldable pub orderFor : ℕ → List ℕ → ℕ → ℕ → Order
+orderFor n t lowest count = orderUnless (pick (leb (lowest + count) n) 0 4) (orderIn t lowest count)
+
+unfoldable pub handFor : ℕ → List ℕ → ℕ → ℕ → ℕ → Hand
+handFor n t lowest count p = handUnless (pick (leb (lowest + count) n) 0 4) (handIn t lowest count p)
+
+-- AFTER RECOVERY of any history's medium both answers are the ones for the table "worked out afresh from the empty table by the writes of exactly those transactions
+-- whose commit entry had been stored on the medium, in the order stored"
+abbrev pub AsAfresh : ℕ → ℕ → Keeper → List Event → List ℕ → Type 0
+AsAfresh n c k es m =
+    (lowest count : ℕ)
+    → (cellToOrder m lowest count ≡ orderFor n (wanted n c k es) lowest count)
+    × ((p : ℕ) → partInHand m lowest count p ≡ handFor n (wanted n c k es) lowest count p)
+
+-- of a medium that is recovered after the history, and of a keeper whose recovery ends by its last step
+abbrev pub RecoveredAnswers : Type 0
+RecoveredAnswers =
+    (n c : ℕ) (k : Keeper) (es : List Event) → History n c k es → AsAfresh n c k es (recovered (now n c k es .medium) .medium)
+
+abbrev pub EndedAnswers : Type 0
+EndedAnswers =
+    (n c : ℕ) (k : Keeper) (es : List Event) → History n c k es → ended (act RecoveryStep (now n c k es) .answer) ≡ true
+    → AsAfresh n c k es (act RecoveryStep (now n c k es) .keeper .medium)

@@ -137,10 +137,10 @@ pub fn cell_to_order(medium: &[u8], unit: ControlUnit) -> Order
 fn against(value: u64, listed: Best) -> Hand
     ensures { λ r. ⌜ r ≡ against value listed ⌝ }
 {
-    let Best::Cell(_, other) = listed else {
+    let Best::Cell(_, own) = listed else {
         return Hand::NotListed;
     };
-    if release(other) < release(value) {
+    if release(own) < release(value) {
         return Hand::Older;
     }
     Hand::Equal

@@ -26,7 +26,7 @@ use Rattle.recovered.specs.Recovered.{isCell, steps, started, recovered,
 abbrev pub SameSizes : Keeper → Keeper → Type 0
 SameSizes k k′ = (k .state .cells ≡ k′ .state .cells) × (k .state .slots ≡ k′ .state .slots)
 
-pick-either : {A : Type 0} (P : A → Type 0) (b : Bool) (x y : A) → P x → P y → P (pick b x y)
+pub pick-either : {A : Type 0} (P : A → Type 0) (b : Bool) (x y : A) → P x → P y → P (pick b x y)
 pick-either P true x y p q = p
 pick-either P false x y p q = q
 
