@@ -101,8 +101,8 @@ fn best_in(table: &[u8], lowest: u32, count: u32, sought: Sought) -> Best
     best
 }
 
-// 1, the head out of rule; or 4, lowest plus count, in 64 bits, above N; or 0.
-fn span_refusal(medium: &[u8], unit: ControlUnit) -> u32
+// What both questions are refused with before any cell is read: 1, the head out of rule; or 4, lowest plus count, in 64 bits, above N; or 0.
+pub fn span_refusal(medium: &[u8], unit: ControlUnit) -> u32
     ensures { λ r. ⌜ r ≡ spanRefusal (now (medium .entry)) (unit .lowest) (unit .count) ⌝ }
 {
     let no = table_view_number(medium);
