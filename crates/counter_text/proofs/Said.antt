@@ -105,6 +105,7 @@ module _ (m : List ℕ) where
     where
       far-both : (a b : ℕ) → 4294967295 ≤ a + b → 4294967295 ≤ l + n → said a b p ≡ said l n p
       far-both a b h k = far-text a b _ _ h ∙ sym (far-text l n _ _ k)
+
       go : (t u : Bool) → ltb l 4294967296 ≡ t → ltb n 4294967296 ≡ u → said (pick t l 4294967295) (pick u n 4294967295) p ≡ said l n p
       go true true e f = refl
       go true false e f = far-both l 4294967295 (omega arith) (omega (arith, ltb-false n 4294967296 f))

@@ -41,7 +41,12 @@ fn asked_in(asked: &[u8]) -> Question
         return Question::Nothing;
     };
     let line = nth_line(asked, 3);
-    let Line::At { from: _, to: _, next: _ } = line else {
+    let Line::At {
+        from: _,
+        to: _,
+        next: _,
+    } = line
+    else {
         return Question::Unit(lowest, count, Decimal::Nothing);
     };
     let fourth = decimal_of(nth_bytes(asked, 3));
@@ -153,7 +158,7 @@ fn put_screen(no: u32, medium: &[u8], unit: ControlUnit, part: Decimal, text: &m
 // stands. Goes over the table once for each cell that recovery stores, and twice over the span.
 pub fn screen(medium: &mut [u8], asked: &[u8], text: &mut [u8; 128]) -> usize
     ensures { λ r. ⌜ Wrote (now (text .entry)) 0 (screenText (now (asked .entry)) (now (medium .entry))) (now (text .exit)) r ⌝ }
-    ensures { λ r. ⌜ r ≤ 128 ⌝ }
+    ensures { λ r. ⌜ r ≤ length (now (text .exit)) ⌝ }
     ensures { λ _. ⌜ now (medium .exit) ≡ recovered (now (medium .entry)) .medium ⌝ }
 {
     let question = asked_in(asked);

@@ -15,7 +15,7 @@ same-length : tie.Need-same-length
 same-length c = search needs
 
 returns : tie.Need-returns
-returns c = 
+returns c =
     let w = c .before .before .put-line in
     let q = screen-refused _ _ (c .before .before .before .before .before .if1 .taken) (w .ensures) in
     (q .0, omega (arith, q .1, w .kept, c .before .before .before .before .before .before .before .before .pre))
@@ -27,7 +27,7 @@ same-length-2 : tie.Need-same-length-2
 same-length-2 c = search needs
 
 returns-2 : tie.Need-returns-2
-returns-2 c = 
+returns-2 c =
     let w = c .before .before .put-answer in
     let f = answer-fits _ _ _ _ (w .ensures) in
     (screen-answered (c .before .before .before .before .before .before .before .args .no) _ (omega arith) (w .ensures), omega (arith, w .kept, c .before .before .before .before .before .before .before .pre))
