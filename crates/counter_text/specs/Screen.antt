@@ -1,11 +1,13 @@
 -- What the counter's program says to what it is asked: lines of input, of which the first names the medium, the second and third are lowest and count and the fourth, if
 -- there is one, the part in hand.
 use Prim.Native.Nat.{ℕ, zero, suc, _+_}
+use mathlib.Core.Path.{_≡_}
 use mathlib.Core.Bool.{true, false}
 use mathlib.Core.List.{List, [], _∷_, _++_}
 use lib.Dec.{ltb}
 use Rattle.scope.specs.Bytes.{pick}
-use Rattle.scope.specs.Keeper.{headOk, refusalOf}
+use Rattle.scope.specs.Keeper.{Keeper, headOk, refusalOf}
+use Rattle.scope.specs.History.{Event, History, now, wanted}
 use Rattle.recovered.specs.Recovered.{started, recovered}
 use Rattle.text.specs.Text.{line, refusedKey, cellText}
 use Rattle.lines.specs.Lines.{nthLine, lineBytes, decimalOf}
@@ -18,6 +20,7 @@ use Rattle.counter.specs.declared.Order.the-variants as order
 use Rattle.counter.specs.declared.Hand.{Hand}
 use Rattle.counter.specs.declared.Hand.the-variants as hand
 use Rattle.counter.specs.Counter.{spanRefusal, cellToOrder, partInHand}
+use Rattle.counter.specs.Claims.{orderFor, handFor}
 use Rattle.counter_text.specs.declared.Question.{Question}
 use Rattle.counter_text.specs.declared.Question.the-variants as ask
 
@@ -84,6 +87,21 @@ screenFor ask.Nothing m = line refusedKey (pick (headOk m) 4 1)
 -- WHAT THE COUNTER SAYS of a medium to what it is asked
 unfoldable pub screenText : List ℕ → List ℕ → List ℕ
 screenText s m = screenFor (question s) m
+
+-- what is said of a table of n cells, without a medium
+abbrev pub handLineFor : ℕ → List ℕ → ℕ → ℕ → Decimal → List ℕ
+handLineFor n t lowest count (decimal.Is p) = handText (handFor n t lowest count p)
+handLineFor n t lowest count decimal.Nothing = []
+
+abbrev pub saidOf : ℕ → List ℕ → Question → List ℕ
+saidOf n t (ask.Unit lowest count part) = answered (orderFor n t lowest count) (handLineFor n t lowest count part)
+saidOf n t ask.Nothing = line refusedKey 4
+
+-- AFTER ANY HISTORY the counter says what is to be said of the table worked out afresh from the stored transactions
+abbrev pub SaysAfresh : Type 0
+SaysAfresh =
+    (n c : ℕ) (k : Keeper) (es : List Event) → History n c k es → (s : List ℕ)
+    → screenText s (now n c k es .medium) ≡ saidOf n (wanted n c k es) (question s)
 
 -- the unit that the code works with: beyond 32 bits a number is above any N, and so is that of a line that is none
 unfoldable pub least : ℕ → ℕ

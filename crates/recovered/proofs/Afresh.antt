@@ -142,6 +142,10 @@ module _ (n c : ℕ) (k : Keeper) (es : List Event) (h : History n c k es) where
       let z = length-replicate {A = ℕ} (numberAt 4 0 m) 0 ∙ N in
       (z, z, z, length-replicate {A = ℕ} (32 * numberAt 4 4 m) 0 ∙ ap (λ x. 32 * x) C)
 
+  -- its head, before recovery
+  pub history-head : (headOk m ≡ true) × (numberAt 4 0 m ≡ n)
+  history-head = (head-ok n c (rest .h) (rest .J) m (rest .there), n≡ n c (rest .h) (rest .J) m (rest .there))
+
   pub recovered-accepted : started m .answer ≡ done 0
   unfolding started stateless act
   recovered-accepted = start-never-refused n c k es h zeroed refl sized .0
