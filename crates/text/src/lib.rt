@@ -8,7 +8,7 @@ ghost use Rattle.text.specs.Text.{Wrote, digits, decimal, line, releaseL
 use medium::layout::cell_at;
 
 // Bytes, one after the other.
-fn put_bytes(bytes: &[u8], text: &mut [u8], at: usize) -> usize
+pub fn put_bytes(bytes: &[u8], text: &mut [u8], at: usize) -> usize
     requires { ⌜ at + length (now bytes) ≤ length (now text) ⌝ }
     ensures { λ r. ⌜ Wrote (now (text .entry)) at (now (bytes .entry)) (now (text .exit)) r ⌝ }
 {
@@ -75,7 +75,7 @@ fn put_release(major: u32, minor: u32, text: &mut [u8], at: usize) -> usize
 }
 
 // The three lines of a cell, 62 bytes at most; of an empty one none.
-fn put_cell(cell: u32, value: u64, text: &mut [u8], at: usize) -> usize
+pub fn put_cell(cell: u32, value: u64, text: &mut [u8], at: usize) -> usize
     requires { ⌜ at + 62 ≤ length (now text) ⌝ }
     ensures { λ r. ⌜ Wrote (now (text .entry)) at (cellText cell value) (now (text .exit)) r ⌝ }
 {

@@ -1,0 +1,5 @@
+pub mod Tried
+pub mod Chosen
+pub mod Answers
+pub mod Spans
+pub mod OnMedia

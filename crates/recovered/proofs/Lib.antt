@@ -1,0 +1,3 @@
+pub mod Settled
+pub mod Sizes
+pub mod Afresh
