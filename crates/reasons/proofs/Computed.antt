@@ -22,16 +22,16 @@ B = 40052
 -- cell 0 after h by these entries
 abbrev cell0 : List (ℕ × List Entry)
 cell0 =
-    (0, []) -- no entry
-    ∷ (0, update 1 0 A ∷ commitEntry ∷ []) -- another cell's
-    ∷ (0, update 0 0 A ∷ commitEntry ∷ []) -- case 2
-    ∷ (0, update 0 0 A ∷ commitEntry ∷ update 0 A B ∷ []) -- case 5
-    ∷ (0, update 0 0 A ∷ commitEntry ∷ update 0 A B ∷ commitEntry ∷ []) -- case 6
-    ∷ (0, update 0 0 A ∷ update 0 A B ∷ abortEntry ∷ []) -- case 10
-    ∷ (0, update 0 0 A ∷ update 0 A B ∷ update 1 0 B ∷ commitEntry ∷ []) -- written twice: the last
-    ∷ (0, update 0 0 A ∷ commitEntry ∷ update 1 0 B ∷ abortEntry ∷ update 1 0 A ∷ []) -- later transactions of another cell
-    ∷ (7, commitEntry ∷ update 1 0 A ∷ update 0 5 A ∷ update 0 A B ∷ abortEntry ∷ commitEntry ∷ []) -- after h = 7, restored
-    ∷ (7, update 0 5 A ∷ abortEntry ∷ update 0 5 A ∷ update 0 5 B ∷ []) -- aborted, then unfinished
+    (0, [])  -- no entry
+    ∷ (0, update 1 0 A ∷ commitEntry ∷ [])  -- another cell's
+    ∷ (0, update 0 0 A ∷ commitEntry ∷ [])  -- case 2
+    ∷ (0, update 0 0 A ∷ commitEntry ∷ update 0 A B ∷ [])  -- case 5
+    ∷ (0, update 0 0 A ∷ commitEntry ∷ update 0 A B ∷ commitEntry ∷ [])  -- case 6
+    ∷ (0, update 0 0 A ∷ update 0 A B ∷ abortEntry ∷ [])  -- case 10
+    ∷ (0, update 0 0 A ∷ update 0 A B ∷ update 1 0 B ∷ commitEntry ∷ [])  -- written twice: the last
+    ∷ (0, update 0 0 A ∷ commitEntry ∷ update 1 0 B ∷ abortEntry ∷ update 1 0 A ∷ [])  -- later transactions of another cell
+    ∷ (7, commitEntry ∷ update 1 0 A ∷ update 0 5 A ∷ update 0 A B ∷ abortEntry ∷ commitEntry ∷ [])  -- after h = 7, restored
+    ∷ (7, update 0 5 A ∷ abortEntry ∷ update 0 5 A ∷ update 0 5 B ∷ [])  -- aborted, then unfinished
     ∷ []
 
 pub computed

@@ -1,15 +1,20 @@
 -- What a decision claims ("Proved: ..", ticket 3), over the stored journal cut where the deciding entry stands.
-use Prim.Native.Nat.{ℕ, _+_}
+use Prim.Native.Nat.{ℕ, _+_, _<_}
 use mathlib.Core.Path.{_≡_}
 use mathlib.Core.Bool.{Bool, true, false}
 use mathlib.Core.Logic.{_⊎_}
 use mathlib.Core.List.{List, [], _∷_, _++_}
-use lib.ListN.{length}
+use lib.ListN.{length, getD}
+use Rattle.scope.specs.Bytes.{numberAt}
 use Rattle.scope.specs.Row.{Entry, update, commitEntry, abortEntry}
-use Rattle.scope.specs.Demands.{names}
+use Rattle.scope.specs.Keeper.{Keeper, done}
+use Rattle.scope.specs.Recovery.{tableOf}
+use Rattle.scope.specs.Calls.{recoveryStart}
+use Rattle.scope.specs.Demands.{names, storedJournal}
 use Rattle.reasons.specs.declared.Reason.{Reason}
 use Rattle.reasons.specs.declared.Reason.the-variants.{Table, Written, Restored}
 use Rattle.reasons.specs.declared.Decision.{Decision}
+use Rattle.reasons.specs.Reason.{why}
 
 -- the updates since the last commit or abort, or all: what the open transaction has
 abbrev pub openOf : List Entry → List Entry → List Entry
@@ -63,3 +68,10 @@ Claimed c h es held v Restored entry end =
 
 abbrev pub Claims : ℕ → ℕ → List Entry → ℕ → ℕ → Decision → Type 0
 Claims c h es held v d = Claimed c h es held v (d .reason) (d .entry) (d .end)
+
+-- THE CLAIM, for every medium that recovery accepts and each of its cells: its value is the one that recovery gives, its table's was `held`
+abbrev pub Right : Type 0
+Right =
+    (k : Keeper) (v c : ℕ) → recoveryStart k .answer ≡ done v → (let m = k .medium in let n = numberAt 4 0 m in let s = numberAt 4 4 m in let h = numberAt 4 8 m in
+    c < n
+    → Claims c h (storedJournal n s m) (getD (tableOf n s m) c 0) (getD (recoveryStart k .keeper .current) c 0) (why c h (storedJournal n s m)))
