@@ -1,2 +1,1 @@
-pub mod Recovered
 pub mod Listed

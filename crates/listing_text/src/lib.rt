@@ -1,13 +1,12 @@
 // The listing of a medium as text: recovery by the library's own calls in the caller's memory, then `cells`, `slots`, `head` and the cells
 // that are not empty; or the refusal's number.
-mod recovering;
-
 ghost use mathlib.Core.Path.{_≡_};
 ghost use Prim.Native.Nat.{_≤_};
 ghost use lib.ListN.{length};
+ghost use Rattle.recovered.specs.Recovered.{recovered};
 ghost use Rattle.text.specs.Text.{Wrote};
-ghost use Rattle.listing_text.specs.Listing.{recovered, listing, outcomeText, OnMedium};
-use recovering::recover;
+ghost use Rattle.listing_text.specs.Listing.{listing, outcomeText, OnMedium};
+use recovered::recover;
 use recovery::Started;
 use text::put_line;
 use text::put_table;

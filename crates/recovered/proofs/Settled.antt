@@ -1,5 +1,5 @@
 -- Recovery run to its end: steps that remain give what all give, a step looks at medium and current values alone, and none changes
--- anything after a start that the head refuses. So a start and its steps on a desk of zeros are those of the definition.
+-- anything after a start that the head refuses. So a start and its steps in workspaces of zeros are those of the definition.
 use Prim.Native.Nat.{ℕ, zero, suc, _+_, _-_, _*_, _≤_, _<_}
 use mathlib.Core.Path.{_≡_, refl, sym, ap, _∙_}
 use mathlib.Core.Logic.{⊎-elim}
@@ -23,7 +23,7 @@ use Rattle.recovery.specs.declared.Step.{Step}
 use Rattle.recovery.specs.declared.Step.the-variants as step
 use Rattle.recovery.proofs.Step.{the-type}
 use Rattle.recovery.proofs.Recovering.{head-fits}
-use Rattle.listing_text.specs.Listing.{isCell, steps, started, recovered, headNumber, Desk, Recovers}
+use Rattle.recovered.specs.Recovered.{isCell, steps, started, recovered, headNumber, Zeroed, Recovers}
 
 -- one step of those that remain
 
@@ -124,28 +124,28 @@ part-zeros : (k n j : ℕ) → n ≡ j → j ≤ k → take n (replicate {A = �
 part-zeros k n j q h = ap (λ i. take i (replicate {A = ℕ} k 0)) q ∙ take-zeros j k h
 
 -- parts of workspaces of zeros, as the head says
-pub desk : (m : List ℕ) (n w : ℕ) → n ≡ headNumber 0 m → w ≡ 32 * headNumber 4 m → Desk m (take n (replicate 1024 0)) (take w (replicate 32768 0))
-desk m n w qn qw =
+pub zeroed : (m : List ℕ) (n w : ℕ) → n ≡ headNumber 0 m → w ≡ 32 * headNumber 4 m → Zeroed m (take n (replicate 1024 0)) (take w (replicate 32768 0))
+zeroed m n w qn qw =
     let h = head-numbers-fit m in
     record {
       current-zero = part-zeros 1024 n (headNumber 0 m) qn (h .0);
       waiting-zero = part-zeros 32768 w (32 * headNumber 4 m) qw (omega arith);
     }
 
--- what a recovery with such a desk answers and leaves
+-- what a recovery in such workspaces answers and leaves
 
-module _ (m current waiting : List ℕ) (d : Desk m current waiting) where
-  desk-cells : length current ≡ headNumber 0 m
-  desk-cells = ap length (d .current-zero) ∙ length-replicate (headNumber 0 m) 0
+module _ (m current waiting : List ℕ) (d : Zeroed m current waiting) where
+  zeroed-cells : length current ≡ headNumber 0 m
+  zeroed-cells = ap length (d .current-zero) ∙ length-replicate (headNumber 0 m) 0
 
-  pub desk-fits : length current ≤ 1024
-  desk-fits = let h = head-numbers-fit m in omega (arith, desk-cells)
+  pub zeroed-fits : length current ≤ 1024
+  zeroed-fits = let h = head-numbers-fit m in omega (arith, zeroed-cells)
 
-  pub desk-zeros : take (length current) (replicate {A = ℕ} 1024 0) ≡ replicate (length current) 0
-  desk-zeros = take-zeros (length current) 1024 desk-fits
+  pub zeroed-part : take (length current) (replicate {A = ℕ} 1024 0) ≡ replicate (length current) 0
+  zeroed-part = take-zeros (length current) 1024 zeroed-fits
 
   module _ (first last : List ℕ) (qf : first ≡ replicate (length current) 0) (ql : last ≡ replicate (length current) 0) where
-    -- the steps after the start, as long as the desk says
+    -- the steps after the start, as many as the workspaces say
     abbrev last-keeper : Keeper
     last-keeper = steps (length current + 1) (recoveryStart (stateless m current first last waiting) .keeper)
 
@@ -159,7 +159,7 @@ module _ (m current waiting : List ℕ) (d : Desk m current waiting) where
     in-rule t =
         let n : headNumber 0 m ≡ numberAt 4 0 m = sym (head-number 0 m true (sym t) refl) in
         let c : headNumber 4 m ≡ numberAt 4 4 m = sym (head-number 4 m true (sym t) refl) in
-        let l = desk-cells ∙ n in
+        let l = zeroed-cells ∙ n in
         let zeros : ℕ → List ℕ = λ x. replicate x 0 in
         let qc = d .current-zero ∙ ap zeros n in
         let qw = d .waiting-zero ∙ ap (λ x. replicate {A = ℕ} (32 * x) 0) c in

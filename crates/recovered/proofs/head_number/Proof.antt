@@ -1,11 +1,11 @@
--- `listing_text::recovering::head_number` meets its contract. By the test of the head.
+-- `recovered::head_number` meets its contract. By the test of the head.
 use native.Mathlib.Omega.{arith}
 use borrow.Author.Needs.{needs}
 use mathlib.Core.Path.{_∙_}
 use Rattle.recovery.proofs.Recovering.{head-fits}
-use Rattle.listing_text.proofs.Recovered.{head-number, head-number-none}
-use Rattle.listing_text.proofs.recovering.head_number.Statement.{statement}
-use Rattle.listing_text.proofs.recovering.head_number.Tie as tie
+use Rattle.recovered.proofs.Settled.{head-number, head-number-none}
+use Rattle.recovered.proofs.head_number.Statement.{statement}
+use Rattle.recovered.proofs.head_number.Tie as tie
 
 head-ok-requires : tie.Need-head-ok-requires
 head-ok-requires c κs = search needs

@@ -1,11 +1,11 @@
--- `listing_text::recovering::recover` meets its contract. Parts of arrays of zeros are the desk that the head asks.
+-- `recovered::recover` meets its contract. Parts of arrays of zeros are the workspaces that the head asks.
 use Prim.Native.Nat.{_*_}
 use mathlib.Core.Path.{ap}
 use native.Mathlib.Omega.{arith}
-use Rattle.listing_text.proofs.Recovered.{head-numbers-fit, length-zeros, desk}
+use Rattle.recovered.proofs.Settled.{head-numbers-fit, length-zeros, zeroed}
 use borrow.Author.Needs.{needs}
-use Rattle.listing_text.proofs.recovering.recover.Statement.{statement}
-use Rattle.listing_text.proofs.recovering.recover.Tie as tie
+use Rattle.recovered.proofs.recover.Statement.{statement}
+use Rattle.recovered.proofs.recover.Tie as tie
 
 head-number-requires : tie.Need-head-number-requires
 head-number-requires c κs = search needs
@@ -29,7 +29,7 @@ slice-aggregate-recover-with-2 : tie.Need-slice-aggregate-recover-with-2
 slice-aggregate-recover-with-2 c = length-zeros _ 32768 (let h = head-numbers-fit (c .before .before .before .before .before .before .before .before .args .medium .now) in omega (arith, c .before .before .before .head-number2 .ensures))
 
 recover-with-requires : tie.Need-recover-with-requires
-recover-with-requires c κs = desk (c .before .before .before .before .before .before .before .before .args .medium .now) (c .before .before .before .before .before .head-number .result) (32 * c .before .before .before .head-number2 .result) (c .before .before .before .before .before .head-number .ensures) (ap (λ x. 32 * x) (c .before .before .before .head-number2 .ensures))
+recover-with-requires c κs = zeroed (c .before .before .before .before .before .before .before .before .args .medium .now) (c .before .before .before .before .before .head-number .result) (32 * c .before .before .before .head-number2 .result) (c .before .before .before .before .before .head-number .ensures) (ap (λ x. 32 * x) (c .before .before .before .head-number2 .ensures))
 
 same-length : tie.Need-same-length
 same-length c = search needs

@@ -3,7 +3,7 @@ ghost use mathlib.Core.Path.{_≡_};
 ghost use mathlib.Core.List.{[]};
 ghost use Prim.Native.Nat.{_≤_};
 ghost use Rattle.state.specs.Lent.{lentTo};
-ghost use Rattle.listing_text.specs.Listing.{steps, headNumber, Desk, Recovers};
+ghost use Rattle.recovered.specs.Recovered.{steps, headNumber, Zeroed, Recovers};
 use medium::head::head_ok;
 use medium::layout::index;
 use recovery::Started;
@@ -39,7 +39,7 @@ fn settle(mut left: usize, mut state: Started, medium: &mut [u8], current: &[u64
 
 // Recovery start, then the steps, with workspaces of zeros as the head says. Where the start is refused, so is the first step.
 fn recover_with(medium: &mut [u8], current: &mut [u64], waiting: &[u8]) -> Started
-    requires { ⌜ Desk (now medium) (now current) (now waiting) ⌝ }
+    requires { ⌜ Zeroed (now medium) (now current) (now waiting) ⌝ }
     ensures { λ r. ⌜ Recovers (now (medium .entry)) r (now (medium .exit)) ⌝ }
 {
     let cells = current.len();

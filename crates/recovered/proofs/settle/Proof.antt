@@ -1,4 +1,4 @@
--- `listing_text::recovering::settle` meets its contract. Invariant: the steps that remain, from here, give what all give from the start.
+-- `recovered::settle` meets its contract. Invariant: the steps that remain, from here, give what all give from the start.
 use borrow.Author.Needs.{needs}
 use lib.ListN.{length}
 use mathlib.Core.List.{[]}
@@ -6,10 +6,10 @@ use mathlib.Core.Path.{_∙_, sym, ap, _≡_, refl}
 use native.Mathlib.Omega.{arith}
 use Rattle.state.specs.Lent.{lentTo}
 use Rattle.recovery.specs.Answers.{stepped}
-use Rattle.listing_text.proofs.Recovered.{steps-again, steps-stop, steps-end, no-cell}
-use Rattle.listing_text.specs.Listing.{isCell, steps}
-use Rattle.listing_text.proofs.recovering.settle.Statement.{statement}
-use Rattle.listing_text.proofs.recovering.settle.Tie as tie
+use Rattle.recovered.proofs.Settled.{steps-again, steps-stop, steps-end, no-cell}
+use Rattle.recovered.specs.Recovered.{isCell, steps}
+use Rattle.recovered.proofs.settle.Statement.{statement}
+use Rattle.recovered.proofs.settle.Tie as tie
 
 abbrev Inv-loop : tie.InvT-loop
 Inv-loop left₀ state₀ medium₀ current number left state medium =

@@ -1,0 +1,53 @@
+-- What the recovery of a medium to its end answers and leaves: a start in workspaces of zeros, then the steps, by the papers' calls.
+use Prim.Native.Nat.{ℕ, zero, suc, _+_, _*_}
+use mathlib.Core.Path.{_≡_}
+use mathlib.Core.Bool.{Bool, true, false}
+use mathlib.Core.List.{List}
+use lib.ListN.{replicate}
+use Rattle.scope.specs.Bytes.{pick, numberAt}
+use Rattle.scope.specs.Keeper.{Keeper, Answer, Outcome, done, refused, cell, head, clean, stored, part, headOk}
+use Rattle.scope.specs.Calls.{recoveryStart, recoveryStep}
+use Rattle.state.specs.State.{stateOf}
+use Rattle.state.specs.Lent.{stateless}
+use Rattle.recovery.specs.Answers.{numbered}
+use Rattle.recovery.specs.declared.Started.{Started}
+
+-- a cell was stored
+abbrev pub isCell : Answer → Bool
+isCell (done v) = false
+isCell (refused n) = false
+isCell (cell c) = true
+isCell head = false
+isCell clean = false
+isCell stored = false
+isCell (part b) = false
+
+-- recovery steps while a cell is stored, at most so many
+unfoldable pub steps : ℕ → Keeper → Keeper
+steps zero k = k
+steps (suc left) k = pick (isCell (recoveryStep k .answer)) (steps left (recoveryStep k .keeper)) (recoveryStep k .keeper)
+
+-- recovery start, with workspaces of zeros as the head says
+unfoldable pub started : List ℕ → Outcome
+started m =
+    let n = numberAt 4 0 m in
+    recoveryStart (stateless m (replicate n 0) (replicate n 0) (replicate n 0) (replicate (32 * numberAt 4 4 m) 0))
+
+-- N cells differ at most, and one step more stores the head or nothing
+unfoldable pub recovered : List ℕ → Keeper
+recovered m = steps (numberAt 4 0 m + 1) (started m .keeper)
+
+-- N or C, as the head has it at 0 or 4, where it is in rule
+unfoldable pub headNumber : ℕ → List ℕ → ℕ
+headNumber at m = pick (headOk m) (numberAt 4 at m) 0
+
+-- current values and waiting rows of zeros, as the head says
+pub record Zeroed (m current waiting : List ℕ) : Type 0 where
+  pub current-zero : current ≡ replicate (headNumber 0 m) 0
+  pub waiting-zero : waiting ≡ replicate (32 * headNumber 4 m) 0
+
+-- what a recovery from a medium answers and leaves: the start's answer, with the state and the medium after the steps
+pub record Recovers (m : List ℕ) (o : Started) (m′ : List ℕ) : Type 0 where
+  pub answer : numbered (o .number) ≡ started m .answer
+  pub state : stateOf (o .numbers) (o .phase) ≡ recovered m .state
+  pub medium : m′ ≡ recovered m .medium
