@@ -1,0 +1,3 @@
+pub mod Lined
+pub mod Numbered
+pub mod Tried
