@@ -1,7 +1,7 @@
 -- A walk from h meets the stored journal, wherever recovery reads one: entry by entry, a row counts for both or for neither.
 use Prim.Native.Nat.{ℕ, zero, suc, _+_, _-_, _<_, _≤_}
 use mathlib.Core.Path.{_≡_, refl, sym, ap, _∙_}
-use mathlib.Core.Bool.{Bool, true, false}
+use mathlib.Core.Bool.{Bool, true, false, _&&_}
 use mathlib.Core.List.{List, [], _∷_}
 use mathlib.Core.Option.{Option, none, some}
 use native.Mathlib.Omega.{arith}
@@ -78,6 +78,39 @@ most slots h = go (leb slots (4294967295 - h)) refl
     go : (t : Bool) → leb slots (4294967295 - h) ≡ t → (pick t slots (4294967295 - h) ≤ slots) × (pick t slots (4294967295 - h) ≤ 4294967295 - h)
     go true e = (omega arith, leb-true slots (4294967295 - h) e)
     go false e = (omega (arith, leb-false slots (4294967295 - h) e), omega arith)
+
+least : (slots h k : ℕ) → k < slots → k < 4294967295 - h → k < atMost slots h
+unfolding atMost maxNo
+least slots h k p q = go (leb slots (4294967295 - h))
+  where
+    go : (t : Bool) → k < pick t slots (4294967295 - h)
+    go true = p
+    go false = q
+
+-- an entry that is met has the next number, and counts
+pub met-counts : (m : List ℕ) (n k : ℕ) (e : Entry) → nextOn m n ≡ holds k e
+    → (k ≡ n + 1) × (numberAt 4 8 m ≤ n) × (n - numberAt 4 8 m < atMost (numberAt 4 4 m) (numberAt 4 8 m))
+unfolding nextOn nextIn
+met-counts m n k e q =
+    go (headOk m && counts (numberAt 4 4 m) (numberAt 4 8 m) n) (eqb (numberAt 4 0 (rowsOf (numberAt 4 4 m) m (n + 1))) (n + 1)) (readRow (numberAt 4 0 m) (n + 1) (rowsOf (numberAt 4 4 m) m (n + 1))) refl q
+  where
+    go : (t b : Bool) (o : Option Entry) → headOk m && counts (numberAt 4 4 m) (numberAt 4 8 m) n ≡ t → pick t (pick b (asRead (n + 1) o) end) end ≡ holds k e
+        → (k ≡ n + 1) × (numberAt 4 8 m ≤ n) × (n - numberAt 4 8 m < atMost (numberAt 4 4 m) (numberAt 4 8 m))
+    go false b o z g = let w : _≡_ {A = ℕ} 0 1 = cc in absurd (omega arith)
+    go true false o z g = let w : _≡_ {A = ℕ} 0 1 = cc in absurd (omega arith)
+    go true true none z g = let w : _≡_ {A = ℕ} 0 1 = cc in absurd (omega arith)
+    go true true (some x) z g =
+        let w = counts-below (numberAt 4 4 m) (numberAt 4 8 m) n (and-right (headOk m) (counts (numberAt 4 4 m) (numberAt 4 8 m) n) z) in
+        (cc, w .0, omega (arith, w .0, w .1, w .2, least (numberAt 4 4 m) (numberAt 4 8 m) (n - numberAt 4 8 m) (w .2) (omega (arith, w .0, w .1))))
+
+-- a walk meets nothing on a medium whose head is out of rule
+pub walk-none : (m : List ℕ) → headOk m ≡ false → walk m ≡ []
+unfolding walk walkFrom
+walk-none m p = go (atMost (numberAt 4 4 m) (numberAt 4 8 m))
+  where
+    go : (left : ℕ) → walkFrom m left (numberAt 4 8 m) ≡ []
+    go zero = refl
+    go (suc left) = ap (λ x. followed x (walkFrom m left (numberAt 4 8 m + 1))) (sym (no-head m (numberAt 4 8 m) false (sym p) refl))
 
 module _ (m : List ℕ) (ok : headOk m ≡ true) where
   abbrev N : ℕ
