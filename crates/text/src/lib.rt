@@ -8,7 +8,7 @@ ghost use Rattle.text.specs.Text.{Wrote, digits, decimal, line, releaseL
 use medium::layout::cell_at;
 
 // Bytes, one after the other.
-fn put_bytes(bytes: &[u8], text: &mut [u8], at: usize) -> usize
+pub fn put_bytes(bytes: &[u8], text: &mut [u8], at: usize) -> usize
     requires { ⌜ at + length (now bytes) ≤ length (now text) ⌝ }
     ensures { λ r. ⌜ Wrote (now (text .entry)) at (now (bytes .entry)) (now (text .exit)) r ⌝ }
 {
@@ -46,7 +46,7 @@ fn put_digits(left: u32, n: u32, text: &mut [u8], at: usize) -> usize
 }
 
 // A number in decimal, ten bytes at most, and the byte after it.
-fn put_decimal(n: u32, after: u8, text: &mut [u8], at: usize) -> usize
+pub fn put_decimal(n: u32, after: u8, text: &mut [u8], at: usize) -> usize
     requires { ⌜ at + 11 ≤ length (now text) ⌝ }
     ensures { λ r. ⌜ Wrote (now (text .entry)) at (decimal n ++ (after ∷ [])) (now (text .exit)) r ⌝ }
 {
