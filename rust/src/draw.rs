@@ -86,6 +86,11 @@ impl Draw {
         })
     }
 
+    /// Whether all that is left of the history is its last power losses and recoveries.
+    pub fn is_over(&self) -> bool {
+        self.left == 0 && self.queue.is_empty()
+    }
+
     /// A format, sometimes a head near M, sometimes a journal.
     fn open(&mut self) {
         let Opening { cells, slots, .. } = self.opening;

@@ -21,6 +21,8 @@
 //!
 //! The waiting rows, in memory, are placed as the rows on the medium.
 
+use std::fmt;
+
 /// The largest entry number.
 pub const M: u32 = u32::MAX;
 pub const HEAD: usize = 32;
@@ -90,6 +92,34 @@ pub fn word4(bytes: &[u8], at: usize) -> u32 {
 #[inline]
 pub fn word8(bytes: &[u8], at: usize) -> u64 {
     u64::from_le_bytes(bytes[at..at + 8].try_into().unwrap())
+}
+
+/// Releases compare as numbers, major before minor.
+#[derive(Clone, Copy, Debug, PartialEq, Eq, PartialOrd, Ord)]
+pub struct Release {
+    pub major: u16,
+    pub minor: u16,
+}
+
+impl fmt::Display for Release {
+    fn fmt(&self, out: &mut fmt::Formatter) -> fmt::Result {
+        write!(out, "{}.{}", self.major, self.minor)
+    }
+}
+
+/// What a cell that is not empty holds.
+#[derive(Clone, Copy, Debug, PartialEq, Eq)]
+pub struct Fitment {
+    pub part: u32,
+    pub release: Release,
+}
+
+impl Fitment {
+    /// A cell's value taken apart; none of an empty cell.
+    pub fn of(value: u64) -> Option<Fitment> {
+        let release = Release { major: (value >> 32) as u16, minor: (value >> 48) as u16 };
+        (value != 0).then_some(Fitment { part: value as u32, release })
+    }
 }
 
 #[derive(Clone, Copy, Debug, PartialEq, Eq)]

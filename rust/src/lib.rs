@@ -6,10 +6,14 @@
 //! - `fault`: the ways it has gone wrong, each to be switched on alone.
 //! - `keeper`: the calls in the shape of the C boundary, over the second program or the proved library.
 //! - `listing`: the listing's text.
+//! - `counter`, `why`, `month`: the tools over recovered media, for tickets 1, 3 and 13; `tool`: what they share.
 //! - `desk`, `event`, `draw`, `rng`, `directed`, `ledger`, `play`, `hits`: the comparison of two keepers.
+//! - `corpus`: media of random histories, for comparing the tools.
 //! - `bench`, `plot`: the measurements and their drawing.
 
 pub mod bench;
+pub mod corpus;
+pub mod counter;
 pub mod desk;
 pub mod directed;
 pub mod draw;
@@ -22,8 +26,11 @@ pub mod ledger;
 #[cfg(feature = "library")]
 pub mod library;
 pub mod listing;
+pub mod month;
 pub mod play;
 pub mod plot;
 pub mod rng;
 pub mod second;
 pub mod state;
+pub mod tool;
+pub mod why;

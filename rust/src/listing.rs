@@ -1,7 +1,7 @@
 //! The listing's text: a medium is recovered in memory and its table printed as key=value lines.
 
 use crate::keeper::{Keeper, STEP_HEAD};
-use crate::layout::{word4, Head, CELL, LARGEST, ROW};
+use crate::layout::{table, word4, Fitment, Head, LARGEST, ROW};
 use crate::state::NUMBERS;
 use std::fmt::Write;
 
@@ -16,7 +16,8 @@ pub fn text(keeper: &dyn Keeper, medium: &mut [u8]) -> String {
     }
 }
 
-fn recover(keeper: &dyn Keeper, medium: &mut [u8]) -> Result<(), u32> {
+/// Recovers the medium where it stands, to recovery's end.
+pub fn recover(keeper: &dyn Keeper, medium: &mut [u8]) -> Result<(), u32> {
     // Sizes that the keeper itself judges: those of the head, or of no medium.
     let Head { cells, slots, .. } = Head::of(medium).unwrap_or(Head { cells: 0, slots: 0, h: 0 });
     let (cells, slots) = (cells as usize, slots as usize);
@@ -47,14 +48,9 @@ fn refused(number: u32) -> Result<(), u32> {
 fn lines(medium: &[u8]) -> String {
     let (cells, slots, head) = (word4(medium, 0), word4(medium, 4), word4(medium, 8));
     let mut text = format!("cells={cells}\nslots={slots}\nhead={head}\n");
-    let table = &medium[medium.len() - CELL * cells as usize..];
-    for (cell, bytes) in table.as_chunks::<CELL>().0.iter().enumerate() {
-        let &[a, b, c, d, major_low, major_high, minor_low, minor_high] = bytes;
-        let part = u32::from_le_bytes([a, b, c, d]);
-        let major = u16::from_le_bytes([major_low, major_high]);
-        let minor = u16::from_le_bytes([minor_low, minor_high]);
-        if (part, major, minor) != (0, 0, 0) {
-            writeln!(text, "cell={cell}\npart={part}\nrelease={major}.{minor}").unwrap();
+    for (cell, bytes) in table(medium, slots).iter().enumerate() {
+        if let Some(Fitment { part, release }) = Fitment::of(u64::from_le_bytes(*bytes)) {
+            writeln!(text, "cell={cell}\npart={part}\nrelease={release}").unwrap();
         }
     }
     text
