@@ -1,1 +1,3 @@
 pub mod Adding
+pub mod Placed
+pub mod Summed
