@@ -16,6 +16,10 @@ digits (suc left) n = pick (ltb n 10) ((48 + n) ∷ []) (digits left (n / 10) ++
 unfoldable pub decimal : ℕ → List ℕ
 decimal n = digits 10 n
 
+-- and one of 64 bits twenty
+unfoldable pub decimal64 : ℕ → List ℕ
+decimal64 n = digits 20 n
+
 -- the keys, with their '='
 abbrev pub cellsKey : List ℕ
 cellsKey = 99 ∷ 101 ∷ 108 ∷ 108 ∷ 115 ∷ 61 ∷ []
@@ -41,6 +45,9 @@ refusedKey = 114 ∷ 101 ∷ 102 ∷ 117 ∷ 115 ∷ 101 ∷ 100 ∷ 61 ∷ []
 -- key, number, line end
 unfoldable pub line : List ℕ → ℕ → List ℕ
 line key n = key ++ decimal n ++ (10 ∷ [])
+
+unfoldable pub line64 : List ℕ → ℕ → List ℕ
+line64 key n = key ++ decimal64 n ++ (10 ∷ [])
 
 -- a refusal prints its number only
 abbrev pub orRefused : Answer → List ℕ → List ℕ
