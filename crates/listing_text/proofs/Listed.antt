@@ -10,11 +10,11 @@ use Rattle.scope.proofs.TableCells.{length-table}
 use Rattle.state.specs.State.{stateOf}
 use Rattle.recovery.specs.declared.Started.{Started}
 use Rattle.recovery.proofs.Recovering.{number-refused}
-use Rattle.text.specs.Text.{line, refusedKey, tableText, Wrote}
+use Rattle.text.specs.Text.{line, refusedKey, orRefused, tableText, Wrote}
 use Rattle.text.proofs.Writing.{wrote-same, length-line, length-table-text}
 use Rattle.recovered.specs.Recovered.{started, recovered, Recovers}
 use Rattle.recovered.proofs.Sizes.{started-cases, recovered-sizes, recovers-sizes}
-use Rattle.listing_text.specs.Listing.{orRefused, listing, outcomeText, OnMedium}
+use Rattle.listing_text.specs.Listing.{listing, outcomeText, OnMedium}
 
 -- what a recovery leaves
 

@@ -4,21 +4,11 @@ use mathlib.Core.Path.{_≡_}
 use mathlib.Core.List.{List}
 use lib.ListN.{length}
 use Rattle.scope.specs.Bytes.{numberAt}
-use Rattle.scope.specs.Keeper.{Answer, done, refused, cell, head, clean, stored, part}
 use Rattle.scope.specs.Recovery.{tableOf}
 use Rattle.recovery.specs.Answers.{numbered}
 use Rattle.recovery.specs.declared.Started.{Started}
 use Rattle.recovered.specs.Recovered.{started, recovered}
-use Rattle.text.specs.Text.{line, refusedKey, tableText}
-
-abbrev pub orRefused : Answer → List ℕ → List ℕ
-orRefused (done v) text = text
-orRefused (refused n) text = line refusedKey n
-orRefused (cell c) text = text
-orRefused head text = text
-orRefused clean text = text
-orRefused stored text = text
-orRefused (part b) text = text
+use Rattle.text.specs.Text.{orRefused, tableText}
 
 -- THE LISTING of a medium
 unfoldable pub listing : List ℕ → List ℕ

@@ -56,7 +56,7 @@ fn recover_with(medium: &mut [u8], current: &mut [u64], waiting: &[u8]) -> Start
 }
 
 // N or C, as a head in rule has it at 0 or 4; of any other head 0, since a start refuses it whatever workspaces it is lent.
-fn head_number(medium: &[u8], at: usize) -> usize
+pub fn head_number(medium: &[u8], at: usize) -> usize
     requires { ⌜ at ≤ 4 ⌝ }
     ensures { λ r. ⌜ r ≡ headNumber at (now (medium .entry)) ⌝ }
 {

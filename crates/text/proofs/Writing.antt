@@ -14,7 +14,7 @@ use Rattle.scope.specs.Keeper.{cellAt, cellsOf}
 use Rattle.scope.specs.Recovery.{tableOf}
 use Rattle.scope.proofs.TableCells.{length-table}
 use Rattle.number.proofs.Numbers.{put-sets, put-next}
-use Rattle.text.specs.Text.{Wrote, digits, decimal, line, releaseLine, cellText, cellsText, tableText, cellKey, partKey, releaseKey, cellsKey, slotsKey, headKey}
+use Rattle.text.specs.Text.{Wrote, digits, decimal, line, releaseLine, cellText, cellsText, tableText, cellKey, partKey, releaseKey, cellsKey, slotsKey, headKey, decimal64, line64}
 
 -- writing
 
@@ -88,7 +88,18 @@ module _ (n : ℕ) where
   pub length-ended : (b : ℕ) → length (decimal n ++ (b ∷ [])) ≤ 11
   length-ended b = omega (arith, length-decimal, length-append (decimal n) (b ∷ []))
 
+  length-decimal64 : length (decimal64 n) ≤ 20
+  unfolding decimal64
+  length-decimal64 = length-digits 20 n
+
+  pub length-ended64 : (b : ℕ) → length (decimal64 n ++ (b ∷ [])) ≤ 21
+  length-ended64 b = omega (arith, length-decimal64, length-append (decimal64 n) (b ∷ []))
+
 -- room
+
+pub length-line64 : (key : List ℕ) (n : ℕ) → length (line64 key n) ≤ length key + 21
+unfolding line64
+length-line64 key n = omega (arith, length-decimal64 n, length-append (key ++ decimal64 n) (10 ∷ []), length-append key (decimal64 n))
 
 pub length-line : (key : List ℕ) (n : ℕ) → length (line key n) ≤ length key + 11
 unfolding line
@@ -132,6 +143,18 @@ unfolding line
 wrote-line {key = key} n p q h =
     let l = length-ended n 10 in
     wrote-same (wrote-then p q (omega (arith, p .end, q .end))) (sym (append-assoc key (decimal n) (10 ∷ [])))
+
+pub wrote-decimal64 : {t t₁ t₂ : List ℕ} {at a r : ℕ} (n b : ℕ) → Wrote t at (digits 20 n) t₁ a → Wrote t₁ a (b ∷ []) t₂ r → at + 21 ≤ length t
+    → Wrote t at (decimal64 n ++ (b ∷ [])) t₂ r
+unfolding decimal64
+wrote-decimal64 n b p q h = let l = length-digits 20 n in wrote-then p q (omega (arith, p .end, q .end))
+
+pub wrote-line64 : {t t₁ t₂ key : List ℕ} {at a r : ℕ} (n : ℕ) → Wrote t at key t₁ a → Wrote t₁ a (decimal64 n ++ (10 ∷ [])) t₂ r → at + length key + 21 ≤ length t
+    → Wrote t at (line64 key n) t₂ r
+unfolding line64
+wrote-line64 {key = key} n p q h =
+    let l = length-ended64 n 10 in
+    wrote-same (wrote-then p q (omega (arith, p .end, q .end))) (sym (append-assoc key (decimal64 n) (10 ∷ [])))
 
 pub wrote-release : {t t₁ t₂ t₃ : List ℕ} {at a b r : ℕ} (major minor : ℕ) → Wrote t at releaseKey t₁ a → Wrote t₁ a (decimal major ++ (46 ∷ [])) t₂ b
     → Wrote t₂ b (decimal minor ++ (10 ∷ [])) t₃ r → at + 30 ≤ length t → Wrote t at (releaseLine major minor) t₃ r

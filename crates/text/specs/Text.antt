@@ -5,6 +5,7 @@ use mathlib.Core.List.{List, [], _∷_, _++_}
 use lib.Dec.{ltb, eqb}
 use lib.ListN.{length}
 use Rattle.scope.specs.Bytes.{pick, put}
+use Rattle.scope.specs.Keeper.{Answer, done, refused, cell, head, clean, stored, part}
 
 -- the decimal digits of n, the highest first, no zero in front, at most so many
 unfoldable pub digits : ℕ → ℕ → List ℕ
@@ -14,6 +15,10 @@ digits (suc left) n = pick (ltb n 10) ((48 + n) ∷ []) (digits left (n / 10) ++
 -- a number of 32 bits has ten digits at most
 unfoldable pub decimal : ℕ → List ℕ
 decimal n = digits 10 n
+
+-- and one of 64 bits twenty
+unfoldable pub decimal64 : ℕ → List ℕ
+decimal64 n = digits 20 n
 
 -- the keys, with their '='
 abbrev pub cellsKey : List ℕ
@@ -40,6 +45,19 @@ refusedKey = 114 ∷ 101 ∷ 102 ∷ 117 ∷ 115 ∷ 101 ∷ 100 ∷ 61 ∷ []
 -- key, number, line end
 unfoldable pub line : List ℕ → ℕ → List ℕ
 line key n = key ++ decimal n ++ (10 ∷ [])
+
+unfoldable pub line64 : List ℕ → ℕ → List ℕ
+line64 key n = key ++ decimal64 n ++ (10 ∷ [])
+
+-- a refusal prints its number only
+abbrev pub orRefused : Answer → List ℕ → List ℕ
+orRefused (done v) text = text
+orRefused (refused n) text = line refusedKey n
+orRefused (cell c) text = text
+orRefused head text = text
+orRefused clean text = text
+orRefused stored text = text
+orRefused (part b) text = text
 
 -- major, a point, minor
 unfoldable pub releaseLine : ℕ → ℕ → List ℕ

@@ -4,7 +4,7 @@ ghost use mathlib.Core.List.{_∷_, [], _++_};
 ghost use Prim.Native.Nat.{_+_, _*_, _<_, _≤_};
 ghost use lib.ListN.{length};
 ghost use Rattle.scope.specs.Recovery.{tableOf};
-ghost use Rattle.text.specs.Text.{Wrote, digits, decimal, line, releaseLine, cellText, cellsText, tableText};
+ghost use Rattle.text.specs.Text.{Wrote, digits, decimal, decimal64, line, line64, releaseLine, cellText, cellsText, tableText};
 use medium::layout::cell_at;
 
 // Bytes, one after the other.
@@ -21,7 +21,7 @@ pub fn put_bytes(bytes: &[u8], text: &mut [u8], at: usize) -> usize
 }
 
 // The digit of a number below ten.
-fn digit(n: u32) -> u8
+fn digit(n: u64) -> u8
     requires { ⌜ n < 10 ⌝ }
     ensures { λ r. ⌜ r ≡ 48 + n ⌝ }
 {
@@ -29,7 +29,7 @@ fn digit(n: u32) -> u8
 }
 
 // At most so many digits of a number, the highest first: those before the last, then the last.
-fn put_digits(left: u32, n: u32, text: &mut [u8], at: usize) -> usize
+fn put_digits(left: u32, n: u64, text: &mut [u8], at: usize) -> usize
     requires { ⌜ at + left ≤ length (now text) ⌝ }
     ensures { λ r. ⌜ Wrote (now (text .entry)) at (digits left n) (now (text .exit)) r ⌝ }
 {
@@ -46,11 +46,21 @@ fn put_digits(left: u32, n: u32, text: &mut [u8], at: usize) -> usize
 }
 
 // A number in decimal, ten bytes at most, and the byte after it.
-fn put_decimal(n: u32, after: u8, text: &mut [u8], at: usize) -> usize
+pub fn put_decimal(n: u32, after: u8, text: &mut [u8], at: usize) -> usize
     requires { ⌜ at + 11 ≤ length (now text) ⌝ }
     ensures { λ r. ⌜ Wrote (now (text .entry)) at (decimal n ++ (after ∷ [])) (now (text .exit)) r ⌝ }
 {
-    let end = put_digits(10, n, text, at);
+    let end = put_digits(10, n as u64, text, at);
+    text[end] = after;
+    end + 1
+}
+
+// The same of 64 bits, twenty bytes at most.
+fn put_decimal64(n: u64, after: u8, text: &mut [u8], at: usize) -> usize
+    requires { ⌜ at + 21 ≤ length (now text) ⌝ }
+    ensures { λ r. ⌜ Wrote (now (text .entry)) at (decimal64 n ++ (after ∷ [])) (now (text .exit)) r ⌝ }
+{
+    let end = put_digits(20, n, text, at);
     text[end] = after;
     end + 1
 }
@@ -64,8 +74,17 @@ pub fn put_line(key: &[u8], n: u32, text: &mut [u8], at: usize) -> usize
     put_decimal(n, b'\n', text, number)
 }
 
+// A line whose number has 64 bits.
+pub fn put_line64(key: &[u8], n: u64, text: &mut [u8], at: usize) -> usize
+    requires { ⌜ at + length (now key) + 21 ≤ length (now text) ⌝ }
+    ensures { λ r. ⌜ Wrote (now (text .entry)) at (line64 (now (key .entry)) n) (now (text .exit)) r ⌝ }
+{
+    let number = put_bytes(key, text, at);
+    put_decimal64(n, b'\n', text, number)
+}
+
 // The release: major, a point, minor.
-fn put_release(major: u32, minor: u32, text: &mut [u8], at: usize) -> usize
+pub fn put_release(major: u32, minor: u32, text: &mut [u8], at: usize) -> usize
     requires { ⌜ at + 30 ≤ length (now text) ⌝ }
     ensures { λ r. ⌜ Wrote (now (text .entry)) at (releaseLine major minor) (now (text .exit)) r ⌝ }
 {

@@ -14,7 +14,7 @@ use row::Entry;
 use row::Row;
 
 // A cell's `first` after entry n: set where it was 0.
-fn first_mark(old: u32, n: u32) -> u32
+pub fn first_mark(old: u32, n: u32) -> u32
     ensures { λ r. ⌜ r ≡ firstMark old n ⌝ }
 {
     if old == 0 { n } else { old }

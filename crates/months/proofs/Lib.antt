@@ -1,0 +1,4 @@
+pub mod Adding
+pub mod Placed
+pub mod Summed
+pub mod Run

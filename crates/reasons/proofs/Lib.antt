@@ -1,0 +1,4 @@
+pub mod Computed
+pub mod Decided
+pub mod Accepted
+pub mod Telling
