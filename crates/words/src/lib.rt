@@ -201,6 +201,19 @@ fn more(n: usize, most: usize) -> usize {
     n
 }
 
+// A line's length without a carriage return at its end, which some keyboards and files put before the line feed.
+pub fn without_return(line: &[u8], n: usize) -> usize
+    ensures { λ r. ⌜ r ≤ n ⌝ }
+{
+    if n == 0 {
+        return 0;
+    }
+    if byte(line, n - 1) == b'\r' {
+        return n - 1;
+    }
+    n
+}
+
 // A line of standard input without its end: its length, END where there is none, more than the buffer's length for one that does not fit.
 pub fn read_line(line: &mut [u8]) -> usize {
     let most = line.len();
