@@ -10,7 +10,7 @@
  * the next place does. There are two ways to bring it (docs/PLUG.md says which promise of the card each needs):
  *   store    a write and a sync for each store. Needs a card that stores a head, a row or a cell entirely or not at all.
  *   sector   stores that follow one another in one 512-byte sector wait for each other, and are brought by one write and one sync. Needs a
- *            card that writes a sector entirely or not at all. A transaction of a few rows then costs one sync in most cases.
+ *            card that writes a sector entirely or not at all. A transaction of a few rows then costs one sync.
  * `host --by-store ..` or `host --by-sector ..` chooses; by store is the way if nothing is said.
  *
  * scripts/host builds and runs it. By hand: cc -O2 -Iinclude examples/host.c -LFOLDER -lboundary, where FOLDER holds the archive that
@@ -139,10 +139,25 @@ static void write_cell(struct host *h, uint32_t cell, uint64_t value) {
     if (no != 0) refused(no);
 }
 
+/* By sector: where the rows that are left of a sector are too few for a transaction like the last one, empty transactions fill them, in the
+ * write that is due anyway. The next transaction then begins in the next sector, and one sync is enough for it. */
+static void fill_sector(struct host *h, uint32_t rows) {
+    uint64_t number;
+    for (;;) {
+        size_t next = row_place(h, (uint64_t)h->state[L] + 1) % SECTOR;
+        if (next == 0 || SECTOR - next >= 32 * (size_t)rows) return;
+        if (keeper_begin(STATE(h), CURRENT(h), FIRST(h), LAST(h), WAITING(h)) != 0) return;
+        uint32_t no = keeper_commit(STATE(h), WAITING(h), &number);
+        if (no != 0) refused(no);
+    }
+}
+
 static void commit(struct host *h) {
     uint64_t number;
+    uint32_t rows = h->state[L] - h->state[O] + 1;
     uint32_t no = keeper_commit(STATE(h), WAITING(h), &number);
     if (no != 0) refused(no);
+    if (h->by_sector) fill_sector(h, rows);
     force_all(h);
     settle(h);
 }
