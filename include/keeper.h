@@ -39,6 +39,13 @@
  *      change durable on the real medium before its next call, entirely or not at all, and one change at a time.
  *   3. A transaction is durable once force has answered its commit's number and that store is durable.
  *   4. One call at a time: the calls share the state and the buffers.
+ *   Stores that follow one another in one 512-byte sector may be brought by one write and one sync, in place of rule 2's one at a
+ *   time, where the card writes a sector entirely or not at all (docs/PLUG.md). Stores of two sectors stay in their order.
+ *
+ * How to link
+ *   scripts/native-archive boundary FOLDER proves the library and writes FOLDER/libboundary.a for this machine (on x86-64 it is the
+ *   archive of `rt staticlib boundary`). Then: cc -Iinclude host.c -LFOLDER -lboundary. No other library is needed.
+ *   examples/host.c is a whole host over this header. docs/FORMAT.md says what document 01 says of the medium and the calls.
  */
 #ifndef KEEPER_H
 #define KEEPER_H

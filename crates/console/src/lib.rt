@@ -1,5 +1,11 @@
 // A call chosen by number, its answer as one value, and where on the medium its store stands: what programs share that make calls from
 // data. Nothing is checked here: the keeper does its own checking.
+ghost use mathlib.Core.Path.{_≡_};
+ghost use Prim.Native.Nat.{_+_, _<_, _≤_};
+ghost use Rattle.scope.specs.Keeper.{done, refused, cell, head, clean, stored, valueOf, rowAt};
+ghost use Rattle.recovery.specs.Answers.{stepped};
+ghost use Rattle.keeper.specs.Answers.{answered, writtenBack, handed};
+ghost use Rattle.console.specs.Made.{nowhere, cutPlace, forcePlace, backPlace, stepPlace, didOf, callOf, Made};
 use keeper::Answer;
 use keeper::Back;
 use keeper::Outcome;
@@ -59,22 +65,18 @@ pub struct Did {
     pub size: usize,
 }
 
-// Where entry n's row stands.
-fn row_place(slots: u32, n: u64) -> usize {
-    if slots == 0 {
-        return 32;
-    }
-    if n == 0 {
-        return 32;
-    }
+// Where entry n's row stands on the medium.
+fn row_place(slots: u32, n: u64) -> usize
+    requires { ⌜ (0 < slots) × (0 < n) ⌝ }
+    ensures { λ r. ⌜ r ≡ 32 + rowAt slots n ⌝ }
+{
     let row = (n - 1) % (slots as u64);
-    if row < 1024 {
-        return 32 + 32 * row as usize;
-    }
-    32
+    32 + 32 * row as usize
 }
 
-fn refusal(state: State, number: u32) -> Did {
+fn refusal(state: State, number: u32) -> Did
+    ensures { λ r. ⌜ r ≡ didOf (refused number) state nowhere ⌝ }
+{
     Did {
         state,
         refused: number,
@@ -85,7 +87,9 @@ fn refusal(state: State, number: u32) -> Did {
     }
 }
 
-fn answer(state: State, value: u64, said: u32, at: usize, size: usize) -> Did {
+fn answer(state: State, value: u64, said: u32, at: usize, size: usize) -> Did
+    ensures { λ r. ⌜ r ≡ record { state = state; refused = 0; value = value; said = said; at = at; size = size } ⌝ }
+{
     Did {
         state,
         refused: 0,
@@ -97,7 +101,9 @@ fn answer(state: State, value: u64, said: u32, at: usize, size: usize) -> Did {
 }
 
 // A call that stores nothing.
-fn plain(out: Outcome) -> Did {
+fn plain(out: Outcome) -> Did
+    ensures { λ r. ⌜ r ≡ didOf (answered (out .answer)) (out .state) nowhere ⌝ }
+{
     let state = out.state;
     let said = out.answer;
     match said {
@@ -107,20 +113,27 @@ fn plain(out: Outcome) -> Did {
 }
 
 // Force: the row of the entry that it answers.
-fn forced(out: Outcome) -> Did {
+fn forced(out: Outcome, slots: u32) -> Did
+    requires { ⌜ (0 < valueOf (answered (out .answer)) → 0 < slots) ⌝ }
+    ensures { λ r. ⌜ r ≡ didOf (answered (out .answer)) (out .state) (forcePlace slots (answered (out .answer))) ⌝ }
+{
     let state = out.state;
     let said = out.answer;
     match said {
         Answer::Done(n) => {
-            let size = if n == 0 { 0 } else { 32 };
-            answer(state, n, PLAIN, row_place(state.numbers.slots, n), size)
+            if n == 0 {
+                return answer(state, 0, PLAIN, 0, 0);
+            }
+            answer(state, n, PLAIN, row_place(slots, n), 32)
         }
         Answer::Refused(number) => refusal(state, number),
     }
 }
 
 // Cut: the head.
-fn headed(out: Outcome) -> Did {
+fn headed(out: Outcome) -> Did
+    ensures { λ r. ⌜ r ≡ didOf (answered (out .answer)) (out .state) (cutPlace (answered (out .answer))) ⌝ }
+{
     let state = out.state;
     let said = out.answer;
     match said {
@@ -130,89 +143,101 @@ fn headed(out: Outcome) -> Did {
 }
 
 // Write-back: the cell.
-fn backed(out: WrittenBack, cell: u32) -> Did {
+fn backed(out: WrittenBack, slots: u32, cell: u32) -> Did
+    ensures { λ r. ⌜ r ≡ didOf (writtenBack (out .answer)) (out .state) (backPlace slots cell (writtenBack (out .answer))) ⌝ }
+{
     let state = out.state;
     let said = out.answer;
     match said {
-        Back::Stored => answer(state, 0, STORED, cell_at(state.numbers.slots, cell), 8),
+        Back::Stored => answer(state, 0, STORED, cell_at(slots, cell), 8),
         Back::Clean => answer(state, 0, CLEAN, 0, 0),
         Back::Refused(number) => refusal(state, number),
     }
 }
 
 // Recovery step: the cell or the head.
-fn walked(out: Stepped) -> Did {
+fn walked(out: Stepped, slots: u32) -> Did
+    ensures { λ r. ⌜ r ≡ didOf (stepped (out .answer)) (out .state) (stepPlace slots (stepped (out .answer))) ⌝ }
+{
     let state = out.state;
     let said = out.answer;
     match said {
-        Step::Cell(cell) => answer(
-            state,
-            cell as u64,
-            CELL,
-            cell_at(state.numbers.slots, cell),
-            8,
-        ),
+        Step::Cell(cell) => answer(state, cell as u64, CELL, cell_at(slots, cell), 8),
         Step::Head => answer(state, 0, HEAD, 0, 32),
         Step::Clean => answer(state, 0, CLEAN, 0, 0),
         Step::Refused(number) => refusal(state, number),
     }
 }
 
-// Begin, write, abort.
+// Begin, write, abort: nothing is stored.
 fn on_desk(
     state: State,
     asked: Asked,
+    medium: &[u8],
     current: &mut [u64],
     first: &mut [u32],
     last: &mut [u32],
     waiting: &mut [u8],
-) -> Outcome {
+) -> Did
+    requires { ⌜ asked .call < 3 ⌝ }
+    ensures { λ r. let before = handed state (now (medium .entry)) (now (current .entry)) (now (first .entry)) (now (last .entry)) (now (waiting .entry)) in let after = handed (r .state) (now (medium .entry)) (now (current .exit)) (now (first .exit)) (now (last .exit)) (now (waiting .exit)) in ⌜ Made (callOf asked) before r after ⌝ }
+{
     if asked.call == BEGIN {
-        return state.begin(current, first, last, waiting);
+        return plain(state.begin(current, first, last, waiting));
     }
     if asked.call == WRITE {
-        return state.write(asked.cell, asked.value, current, first, last, waiting);
+        return plain(state.write(asked.cell, asked.value, current, first, last, waiting));
     }
-    state.abort(current, first, last, waiting)
+    plain(state.abort(current, first, last, waiting))
 }
 
-// Write-back, recovery start.
-fn on_both(
+// Commit, read: nothing is stored.
+fn on_rows(
     state: State,
     asked: Asked,
-    medium: &mut [u8],
-    current: &mut [u64],
-    first: &mut [u32],
-    last: &mut [u32],
-    waiting: &[u8],
-) -> Did {
-    if asked.call == BACK {
-        return backed(
-            state.write_back(asked.cell, medium, current, first, last),
-            asked.cell,
-        );
+    medium: &[u8],
+    current: &[u64],
+    first: &[u32],
+    last: &[u32],
+    waiting: &mut [u8],
+) -> Did
+    requires { ⌜ (3 ≤ asked .call) × (asked .call < 5) ⌝ }
+    ensures { λ r. let before = handed state (now (medium .entry)) (now (current .entry)) (now (first .entry)) (now (last .entry)) (now (waiting .entry)) in let after = handed (r .state) (now (medium .entry)) (now (current .entry)) (now (first .entry)) (now (last .entry)) (now (waiting .exit)) in ⌜ Made (callOf asked) before r after ⌝ }
+{
+    if asked.call == COMMIT {
+        return plain(state.commit(waiting));
     }
-    plain(State::recovery_start(medium, current, first, last, waiting))
+    plain(state.read(asked.cell, current))
 }
 
-// Commit, read, force, recovery step.
-fn on_one(
+// Force, cut, write-back and recovery step: one store at most.
+fn on_card(
     state: State,
     asked: Asked,
     medium: &mut [u8],
     current: &[u64],
-    waiting: &mut [u8],
-) -> Did {
-    if asked.call == COMMIT {
-        return plain(state.commit(waiting));
-    }
-    if asked.call == READ {
-        return plain(state.read(asked.cell, current));
-    }
+    first: &mut [u32],
+    last: &[u32],
+    waiting: &[u8],
+) -> Did
+    requires { ⌜ (5 ≤ asked .call) × (asked .call ≡ 9 → ⊥) ⌝ }
+    ensures { λ r. let before = handed state (now (medium .entry)) (now (current .entry)) (now (first .entry)) (now (last .entry)) (now (waiting .entry)) in let after = handed (r .state) (now (medium .exit)) (now (current .entry)) (now (first .exit)) (now (last .entry)) (now (waiting .entry)) in ⌜ Made (callOf asked) before r after ⌝ }
+{
+    let slots = state.numbers.slots;
     if asked.call == FORCE {
-        return forced(state.force(medium, waiting));
+        return forced(state.force(medium, waiting), slots);
     }
-    walked(state.recovery_step(medium, current))
+    if asked.call == CUT {
+        return headed(state.cut(asked.entry, medium, first));
+    }
+    if asked.call == BACK {
+        return backed(
+            state.write_back(asked.cell, medium, current, first, last),
+            slots,
+            asked.cell,
+        );
+    }
+    walked(state.recovery_step(medium, current), slots)
 }
 
 // The call, made.
@@ -224,18 +249,17 @@ pub fn make(
     first: &mut [u32],
     last: &mut [u32],
     waiting: &mut [u8],
-) -> Did {
+) -> Did
+    ensures { λ r. let before = handed state (now (medium .entry)) (now (current .entry)) (now (first .entry)) (now (last .entry)) (now (waiting .entry)) in let after = handed (r .state) (now (medium .exit)) (now (current .exit)) (now (first .exit)) (now (last .exit)) (now (waiting .exit)) in ⌜ Made (callOf asked) before r after ⌝ }
+{
     if asked.call < COMMIT {
-        return plain(on_desk(state, asked, current, first, last, waiting));
+        return on_desk(state, asked, medium, current, first, last, waiting);
     }
-    if asked.call == CUT {
-        return headed(state.cut(asked.entry, medium, first));
-    }
-    if asked.call == BACK {
-        return on_both(state, asked, medium, current, first, last, waiting);
+    if asked.call < FORCE {
+        return on_rows(state, asked, medium, current, first, last, waiting);
     }
     if asked.call == START {
-        return on_both(state, asked, medium, current, first, last, waiting);
+        return plain(State::recovery_start(medium, current, first, last, waiting));
     }
-    on_one(state, asked, medium, current, waiting)
+    on_card(state, asked, medium, current, first, last, waiting)
 }

@@ -25,12 +25,23 @@ pub const UNKNOWN: u32 = 17;
 // A line that does not fit.
 pub const LONG: u32 = 18;
 
-// A line's order: its kind; whether its words are not what that kind wants; two numbers; a cell's value; a file's name.
+pub const NEW: u32 = 19;
+
+pub const RECOVER: u32 = 20;
+
+pub const STORE: u32 = 21;
+
+// The word that a format says where a table is to be erased, as a number.
+const ERASE: u64 = 435710686053;
+
+// A line's order: its kind; whether its words are not what that kind wants; two numbers; whether a table may be erased; a cell's value;
+// a file's name.
 pub struct Order {
     pub kind: u32,
     pub wrong: bool,
     pub a: u32,
     pub b: u32,
+    pub erase: bool,
     pub value: u64,
     pub name: Span,
 }
@@ -56,6 +67,9 @@ fn call_kind(key: u64) -> u32 {
 fn kind_of(key: u64) -> u32 {
     match key {
         1869636974 => OPEN,
+        7234935 => NEW,
+        32199625091212658 => RECOVER,
+        495874699877 => STORE,
         112628847174004 => FORMAT,
         1819242347 => LOOK,
         1818850164 => LIST,
@@ -70,8 +84,8 @@ fn arity(kind: u32) -> u32 {
     if kind == console::WRITE {
         return 3;
     }
-    if kind == FORMAT {
-        return 2;
+    if kind == NEW {
+        return 1;
     }
     if kind == console::READ {
         return 1;
@@ -142,12 +156,13 @@ fn plain(kind: u32, wrong: bool, name: Span) -> Order {
         wrong,
         a: 0,
         b: 0,
+        erase: false,
         value: 0,
         name,
     }
 }
 
-// An order with one number or more, once their count is right.
+// An order with one number, or a write, once their count is right.
 fn numbered(s: &[u8], kind: u32, a: Span, b: Span, c: Span) -> Order {
     let x = read_number(s, a);
     if x.bad {
@@ -159,6 +174,7 @@ fn numbered(s: &[u8], kind: u32, a: Span, b: Span, c: Span) -> Order {
             wrong: false,
             a: x.n,
             b: 0,
+            erase: false,
             value: 0,
             name: a,
         };
@@ -167,17 +183,35 @@ fn numbered(s: &[u8], kind: u32, a: Span, b: Span, c: Span) -> Order {
     if y.bad {
         return plain(kind, true, a);
     }
-    if kind == FORMAT {
-        return Order {
-            kind,
-            wrong: false,
-            a: x.n,
-            b: y.n,
-            value: 0,
-            name: a,
-        };
-    }
     written(s, x.n, y.n, c)
+}
+
+// A format: cells, rows, and the word `erase` or nothing.
+fn formatted(s: &[u8], count: u32, a: Span, b: Span, c: Span) -> Order {
+    let x = read_number(s, a);
+    let y = read_number(s, b);
+    let wrong = plain(FORMAT, true, a);
+    if x.bad {
+        return wrong;
+    }
+    if y.bad {
+        return wrong;
+    }
+    let erase = count == 3;
+    if erase {
+        if words::key(s, c) != ERASE {
+            return wrong;
+        }
+    }
+    Order {
+        kind: FORMAT,
+        wrong: false,
+        a: x.n,
+        b: y.n,
+        erase,
+        value: 0,
+        name: a,
+    }
 }
 
 // A write: its cell, part and release.
@@ -191,9 +225,37 @@ fn written(s: &[u8], cell: u32, part: u32, c: Span) -> Order {
         wrong: false,
         a: cell,
         b: 0,
+        erase: false,
         value: part as u64 + 4294967296 * (z.n as u64),
         name: c,
     }
+}
+
+fn with_sizes(s: &[u8], count: u32, a: Span, b: Span, c: Span) -> Order {
+    if count == 2 {
+        return formatted(s, count, a, b, c);
+    }
+    if count == 3 {
+        return formatted(s, count, a, b, c);
+    }
+    plain(FORMAT, true, a)
+}
+
+fn with_words(s: &[u8], kind: u32, count: u32, a: Span, b: Span, c: Span) -> Order {
+    let n = arity(kind);
+    if count != n {
+        return plain(kind, true, a);
+    }
+    if n == 0 {
+        return plain(kind, false, a);
+    }
+    if kind == OPEN {
+        return plain(kind, false, a);
+    }
+    if kind == NEW {
+        return plain(kind, false, a);
+    }
+    numbered(s, kind, a, b, c)
 }
 
 // The order of a line that is not empty.
@@ -206,17 +268,11 @@ fn worded(s: &[u8], first: Span) -> Order {
     if kind == UNKNOWN {
         return plain(kind, true, first);
     }
-    let n = arity(kind);
-    if given(a, b, c, d) != n {
-        return plain(kind, true, a);
+    let count = given(a, b, c, d);
+    if kind == FORMAT {
+        return with_sizes(s, count, a, b, c);
     }
-    if n == 0 {
-        return plain(kind, false, a);
-    }
-    if kind == OPEN {
-        return plain(kind, false, a);
-    }
-    numbered(s, kind, a, b, c)
+    with_words(s, kind, count, a, b, c)
 }
 
 // The order of a line.
@@ -233,6 +289,7 @@ pub fn parse(s: &[u8]) -> Order {
 
 // The next line's order.
 pub fn next(line: &mut [u8]) -> Order {
+    say::prompt();
     let n = words::read_line(line);
     let none = Span { from: 0, to: 0 };
     if n == words::END {
@@ -241,7 +298,8 @@ pub fn next(line: &mut [u8]) -> Order {
     if line.len() < n {
         return plain(LONG, true, none);
     }
-    parse(&line[0..n])
+    let end = words::without_return(line, n);
+    parse(&line[0..end])
 }
 
 // The call that an order asks for.
@@ -254,7 +312,35 @@ pub fn asked(order: Order) -> Asked {
     }
 }
 
+// Whether an order is one for the keeper: one of its calls, or several of them.
+pub fn is_keepers(kind: u32) -> bool {
+    if kind == RECOVER {
+        return true;
+    }
+    if kind == STORE {
+        return true;
+    }
+    kind < OPEN
+}
+
+// Whether an order is about a file that is open.
+pub fn wants_file(kind: u32) -> bool {
+    if kind == FORMAT {
+        return true;
+    }
+    if kind == LOOK {
+        return true;
+    }
+    if kind == LIST {
+        return true;
+    }
+    is_keepers(kind)
+}
+
 // Whether an order's word stands alone.
 pub fn alone(kind: u32) -> bool {
+    if kind == FORMAT {
+        return false;
+    }
     arity(kind) == 0
 }

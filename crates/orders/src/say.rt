@@ -1,5 +1,14 @@
-// What the terminal writes. The last line of each reply begins with answer=, refused= or error=; a line for people begins with #.
+// What the terminal writes. The last line of each reply begins with answer=, refused= or error=; a line for people begins with #. A
+// person at a keyboard gets a prompt and hints besides; a script gets neither.
+use libc::STDIN_FILENO;
 use libc::STDOUT_FILENO;
+
+// Why a call was refused with 1.
+pub const EMPTY: u32 = 0;
+
+pub const NO_MEDIUM: u32 = 1;
+
+pub const NO_RECOVERY: u32 = 2;
 
 pub fn say(text: &[u8]) {
     io::write_all(STDOUT_FILENO, text);
@@ -11,11 +20,44 @@ pub fn pair(name: &[u8], n: u64) {
     say(b"\n");
 }
 
-fn meaning_low(n: u32) {
-    if n == 1 {
-        say(b"# not a medium, or a size that is not as N and C say, or no recovery has run\n");
+// Whether a person is at the keyboard.
+fn at_keyboard() -> bool {
+    libc::isatty(STDIN_FILENO) == 1
+}
+
+pub fn prompt() {
+    let person = at_keyboard();
+    if person {
+        say(b"keeper> ");
+    }
+}
+
+// A line that only a person at the keyboard gets.
+pub fn hint(text: &[u8]) {
+    let person = at_keyboard();
+    if person {
+        say(text);
+    }
+}
+
+// Refusal 1, with its cause.
+pub fn unfit(why: u32) {
+    if why == EMPTY {
+        say(b"# the file is empty: format CELLS ROWS is next\nrefused=1\n");
         return;
     }
+    if why == NO_MEDIUM {
+        say(b"# the file is no medium: its length or its head is not that of one\nrefused=1\n");
+        return;
+    }
+    say(b"# no recovery has run on this medium: start, or open it again\nrefused=1\n");
+}
+
+pub fn sizes() {
+    say(b"# sizes out of rule: CELLS is 1 to 1024, ROWS is 4 to 1024\nrefused=1\n");
+}
+
+fn meaning_low(n: u32) {
     if n == 2 {
         say(b"# a journal row with the expected number is no entry\n");
         return;
@@ -57,7 +99,7 @@ fn meaning_high(n: u32) {
     say(b"# no such entry in the journal\n");
 }
 
-// A refusal, in words and by its number.
+// A refusal other than 1, in words and by its number.
 pub fn refused(n: u32) {
     if n < 5 {
         meaning_low(n);
@@ -88,11 +130,17 @@ fn usage_numbers(kind: u32) {
         return;
     }
     if kind == crate::FORMAT {
-        say(b"# expected: format CELLS ROWS, as in format 2 4\n");
+        say(
+            b"# expected: format CELLS ROWS, as in format 2 4; with the word erase after them where a table may be erased\n",
+        );
         return;
     }
     if kind == crate::OPEN {
         say(b"# expected: open FILE, a name without spaces\n");
+        return;
+    }
+    if kind == crate::NEW {
+        say(b"# expected: new FILE, a name without spaces\n");
         return;
     }
     say(b"# expected: one number below 4294967296, as in read 0, back 0, cut 2, look 3\n");
@@ -101,7 +149,7 @@ fn usage_numbers(kind: u32) {
 pub fn usage(kind: u32) {
     if kind == crate::UNKNOWN {
         say(
-            b"# expected: open format start step begin write read commit force back cut abort look list help quit\nerror=word\n",
+            b"# expected: new open format start step recover begin write read commit store force back cut abort look list help quit\nerror=word\n",
         );
         return;
     }
@@ -119,12 +167,17 @@ pub fn usage(kind: u32) {
 }
 
 pub fn help() {
-    say(b"# open FILE; format CELLS ROWS; start; step until answer=head or answer=clean;\n");
+    say(
+        b"# new FILE makes an empty file; format CELLS ROWS makes it a medium; open FILE opens one and starts recovery;\n",
+    );
+    say(b"# recover takes recovery to its end; start begins it again; step takes one step;\n");
     say(b"# begin; write CELL PART MAJOR.MINOR; read CELL; commit; abort;\n");
-    say(b"# force stores one entry; back CELL stores a cell; cut ENTRY stores the head;\n");
+    say(
+        b"# store stores every entry that waits; force stores one; back CELL stores a cell; cut ENTRY stores the head;\n",
+    );
     say(b"# look ENTRY; list; quit\nanswer=0\n");
 }
 
 pub fn no_file() {
-    say(b"# expected: open FILE first\nerror=file\n");
+    say(b"# no file is open: open FILE, or new FILE, first\nerror=file\n");
 }

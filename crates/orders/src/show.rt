@@ -44,11 +44,36 @@ fn cells(table: &[u8]) {
     }
 }
 
+// Why a call on this medium is refused with 1.
+fn cause_of(medium: &[u8]) -> u32 {
+    if medium.len() == 0 {
+        return say::EMPTY;
+    }
+    if medium::head::table_view_number(medium) != 0 {
+        return say::NO_MEDIUM;
+    }
+    say::NO_RECOVERY
+}
+
+pub fn cause(medium: &[u8], size: usize) -> u32 {
+    let m = words::least(size, medium.len());
+    cause_of(&medium[0..m])
+}
+
+// A refusal of a call on this medium.
+pub fn refused(n: u32, medium: &[u8]) {
+    if n == 1 {
+        say::unfit(cause_of(medium));
+        return;
+    }
+    say::refused(n);
+}
+
 // The table as it stands on the medium, in the listing's form.
 fn list_of(medium: &[u8]) {
     let no = medium::head::table_view_number(medium);
     if no != 0 {
-        say::refused(no);
+        say::unfit(cause_of(medium));
         return;
     }
     say::pair(b"cells=", head_number(medium, 0) as u64);
@@ -76,7 +101,7 @@ fn hex(part: &[u8]) {
 fn look_at<'a>(state: State, n: u32, medium: &'a [u8], waiting: &'a [u8]) {
     let no = state.look_number(n, medium, waiting);
     if no != 0 {
-        say::refused(no);
+        refused(no, medium);
         return;
     }
     say::say(b"entry=");

@@ -1,6 +1,7 @@
 // A terminal over the keeper on a real file. It reads orders, one a line, and answers each; each store is in the file, at its own place and
-// synced, before its call is answered, so that killing the terminal at any moment is a loss of power between two calls, or before the last store.
+// synced, before its order is answered, so that killing the terminal at any moment is a loss of power between two calls, or before the last store.
 pub mod file;
+pub mod storing;
 
 use console::Asked;
 use console::Did;
@@ -9,6 +10,7 @@ use file::Told;
 use orders::Order;
 use orders::say;
 use orders::show;
+use storing::Rows;
 
 // What a call answered.
 fn answer(asked: Asked, did: Did) {
@@ -32,6 +34,11 @@ fn answer(asked: Asked, did: Did) {
     if asked.call == console::READ {
         say::value(did.value);
     }
+    if asked.call == console::START {
+        say::hint(
+            b"# recovery has begun: recover takes it to its end and names each cell that it stores\n",
+        );
+    }
     say::pair(b"answer=", did.value);
 }
 
@@ -44,7 +51,7 @@ fn finish(session: Session, asked: Asked, did: Did, medium: &[u8]) -> Told {
         size: session.size,
     };
     if did.refused != 0 {
-        say::refused(did.refused);
+        show::refused(did.refused, medium);
         return Told {
             session: next,
             on: true,
@@ -60,8 +67,127 @@ fn finish(session: Session, asked: Asked, did: Did, medium: &[u8]) -> Told {
     }
 }
 
-// A call on buffers of the medium's sizes.
-fn call_on(
+fn asked(call: u32) -> Asked {
+    Asked {
+        call,
+        cell: 0,
+        value: 0,
+        entry: 0,
+    }
+}
+
+// What a step of a recovery that runs to its end left.
+struct Walk {
+    told: Told,
+    more: bool,
+}
+
+fn walked(session: Session, did: Did, medium: &[u8]) -> Walk {
+    if did.said == console::CELL {} else {
+        return Walk {
+            told: finish(session, asked(console::STEP), did, medium),
+            more: false,
+        };
+    }
+    let state = did.state;
+    let next = Session {
+        state,
+        fd: session.fd,
+        size: session.size,
+    };
+    if file::bring(session.fd, medium, did.at, did.size) {} else {
+        return Walk {
+            told: file::failed(next),
+            more: false,
+        };
+    }
+    say::pair(b"cell=", did.value);
+    Walk {
+        told: Told {
+            session: next,
+            on: true,
+        },
+        more: true,
+    }
+}
+
+fn step_on(
+    session: Session,
+    medium: &mut [u8],
+    current: &mut [u64],
+    first: &mut [u32],
+    last: &mut [u32],
+    waiting: &mut [u8],
+) -> Walk {
+    let state = session.state;
+    let step = asked(console::STEP);
+    let did = console::make(state, step, medium, current, first, last, waiting);
+    walked(session, did, medium)
+}
+
+// Recovery, to its end: each cell is named as it is stored. It stores every cell at most once, and then the head.
+fn recover_on(
+    session: Session,
+    medium: &mut [u8],
+    current: &mut [u64],
+    first: &mut [u32],
+    last: &mut [u32],
+    waiting: &mut [u8],
+) -> Told {
+    let mut told = Told { session, on: true };
+    let mut turns: u32 = 1025;
+    while 0 < turns {
+        turns -= 1;
+        let now = told.session;
+        let walk = step_on(now, medium, current, first, last, waiting);
+        told = walk.told;
+        if walk.more {} else {
+            return told;
+        }
+    }
+    told
+}
+
+// Every entry that waits is stored, and in the file before the answer.
+fn store_on(
+    session: Session,
+    medium: &mut [u8],
+    current: &mut [u64],
+    first: &mut [u32],
+    last: &mut [u32],
+    waiting: &mut [u8],
+) -> Told {
+    let state = session.state;
+    let rows = storing::store_rows(session.fd, state, medium, current, first, last, waiting);
+    stored(session, rows, medium)
+}
+
+fn stored(session: Session, rows: Rows, medium: &[u8]) -> Told {
+    let state = rows.state;
+    let next = Session {
+        state,
+        fd: session.fd,
+        size: session.size,
+    };
+    if rows.taken {} else {
+        return file::failed(next);
+    }
+    if rows.refused != 0 {
+        show::refused(rows.refused, medium);
+        return Told {
+            session: next,
+            on: true,
+        };
+    }
+    say::pair(b"answer=", rows.number);
+    Told {
+        session: next,
+        on: true,
+    }
+}
+
+// An order on buffers of the medium's sizes.
+fn order_on(
     session: Session,
     asked: Asked,
     medium: &mut [u8],
@@ -70,12 +196,18 @@ fn call_on(
     last: &mut [u32],
     waiting: &mut [u8],
 ) -> Told {
+    if asked.call == orders::RECOVER {
+        return recover_on(session, medium, current, first, last, waiting);
+    }
+    if asked.call == orders::STORE {
+        return store_on(session, medium, current, first, last, waiting);
+    }
     let state = session.state;
     let did = console::make(state, asked, medium, current, first, last, waiting);
     finish(session, asked, did, medium)
 }
 
-// A call, with the sizes that the medium's head names.
+// An order for the keeper, with the sizes that the medium's head names.
 fn call(
     session: Session,
     asked: Asked,
@@ -92,7 +224,7 @@ fn call(
     let n1 = words::least(cells, first.len());
     let n2 = words::least(cells, last.len());
     let w = words::least(rows, waiting.len());
-    call_on(
+    order_on(
         session,
         asked,
         &mut medium[0..m],
@@ -135,9 +267,9 @@ fn on_file(
     waiting: &mut [u8],
 ) -> Told {
     if order.kind == orders::FORMAT {
-        return file::format(session, order.a, order.b, medium);
+        return file::format(session, order.a, order.b, order.erase, medium);
     }
-    if order.kind < orders::OPEN {
+    if orders::is_keepers(order.kind) {
         let asked = orders::asked(order);
         return call(session, asked, medium, current, first, last, waiting);
     }
@@ -153,24 +285,11 @@ fn fits(session: Session, order: Order) -> bool {
     if 0 <= session.fd {
         return true;
     }
-    if order.kind < orders::OPEN {
-        say::no_file();
-        return false;
-    }
-    if order.kind == orders::FORMAT {
+    if orders::wants_file(order.kind) {
         say::no_file();
         return false;
     }
     true
-}
-
-fn recovery_start() -> Asked {
-    Asked {
-        call: console::START,
-        cell: 0,
-        value: 0,
-        entry: 0,
-    }
 }
 
 // One order. Open reads the file and starts recovery, which stores nothing.
@@ -195,15 +314,12 @@ fn obey(
         if opened.on {} else {
             return Told { session, on: true };
         }
-        return call(
-            next,
-            recovery_start(),
-            medium,
-            current,
-            first,
-            last,
-            waiting,
-        );
+        let start = asked(console::START);
+        return call(next, start, medium, current, first, last, waiting);
+    }
+    if order.kind == orders::NEW {
+        let name = order.name;
+        return file::make(session, line, name);
     }
     on_file(session, order, medium, current, first, last, waiting)
 }

@@ -1,5 +1,8 @@
 // Words of a line, the numbers and releases that they are, and a line read from standard input. Every function takes any bytes.
-ghost use Prim.Native.Nat.{_<_, _≤_};
+ghost use mathlib.Core.Path.{_≡_};
+ghost use Prim.Native.Nat.{_-_, _<_, _≤_};
+ghost use lib.ListN.{getD};
+ghost use Rattle.words.specs.Words.{parsed, pointIn, joinedRelease, wordNumber, wordRelease};
 use libc::STDIN_FILENO;
 
 // A word's place in its line; an empty one has from = to.
@@ -25,7 +28,10 @@ pub fn least(a: usize, most: usize) -> usize
     most
 }
 
-pub fn byte(s: &[u8], i: usize) -> u8 {
+// The byte at a place; 0 past the end.
+pub fn byte(s: &[u8], i: usize) -> u8
+    ensures { λ r. ⌜ r ≡ getD (now (s .entry)) i 0 ⌝ }
+{
     if i < s.len() {
         return s[i];
     }
@@ -39,7 +45,7 @@ fn put(s: &mut [u8], i: usize, x: u8) {
 }
 
 fn wide(x: u8) -> u64
-    ensures { λ r. ⌜ r < 256 ⌝ }
+    ensures { λ r. ⌜ (r ≡ x) × (r < 256) ⌝ }
 {
     x as u64
 }
@@ -99,41 +105,37 @@ pub fn key(s: &[u8], w: Span) -> u64 {
     k
 }
 
-// A number with one more digit; a number of up to ten digits never grows past the bound.
-fn shifted(n: u64, digit: u8) -> u64 {
-    n % 10000000000 * 10 + wide(digit) % 16
-}
-
-// The decimal number, of at most ten digits and below 2^32, that the word is.
-pub fn number(s: &[u8], w: Span) -> Parsed {
+// The decimal number below 2^32 that the word is.
+pub fn number(s: &[u8], w: Span) -> Parsed
+    ensures { λ r. ⌜ parsed r ≡ wordNumber (now (s .entry)) (w .from) (w .to) ⌝ }
+{
     let to = w.to;
     let mut i = w.from;
     if to <= i {
         return Parsed::Not;
     }
-    if 10 < to - i {
-        return Parsed::Not;
-    }
     let mut n: u64 = 0;
     while i < to {
-        let d = byte(s, i);
-        if d < b'0' {
+        let d = wide(byte(s, i));
+        if d < 48 {
             return Parsed::Not;
         }
-        if b'9' < d {
+        if 57 < d {
             return Parsed::Not;
         }
-        n = shifted(n, d);
+        n = n * 10 + (d - 48);
+        if 4294967295 < n {
+            return Parsed::Not;
+        }
         i += 1;
-    }
-    if 4294967295 < n {
-        return Parsed::Not;
     }
     Parsed::Is(n)
 }
 
 // Where the word's first point stands, or its end.
-fn point(s: &[u8], w: Span) -> usize {
+fn point(s: &[u8], w: Span) -> usize
+    ensures { λ r. ⌜ r ≡ pointIn (w .to - w .from) (now (s .entry)) (w .from) ⌝ }
+{
     let to = w.to;
     let mut i = w.from;
     while i < to {
@@ -142,22 +144,32 @@ fn point(s: &[u8], w: Span) -> usize {
         }
         i += 1;
     }
-    to
+    i
 }
 
-// Two numbers below 65,536 as one.
-fn joined(major: u64, minor: u64) -> Parsed {
-    if 65535 < major {
+// Two numbers as a release: each below 65,536.
+fn joined(major: Parsed, minor: Parsed) -> Parsed
+    ensures { λ r. ⌜ parsed r ≡ joinedRelease (parsed major) (parsed minor) ⌝ }
+{
+    let Parsed::Is(a) = major else {
+        return Parsed::Not;
+    };
+    let Parsed::Is(b) = minor else {
+        return Parsed::Not;
+    };
+    if 65535 < a {
         return Parsed::Not;
     }
-    if 65535 < minor {
+    if 65535 < b {
         return Parsed::Not;
     }
-    Parsed::Is(major + 65536 * minor)
+    Parsed::Is(a + 65536 * b)
 }
 
 // The release that the word is, major, a point, minor: major + 65,536 * minor.
-pub fn release(s: &[u8], w: Span) -> Parsed {
+pub fn release(s: &[u8], w: Span) -> Parsed
+    ensures { λ r. ⌜ parsed r ≡ wordRelease (now (s .entry)) (w .from) (w .to) ⌝ }
+{
     let p = point(s, w);
     if w.to <= p {
         return Parsed::Not;
@@ -170,15 +182,7 @@ pub fn release(s: &[u8], w: Span) -> Parsed {
         from: p + 1,
         to: w.to,
     };
-    let major = number(s, before);
-    let Parsed::Is(a) = major else {
-        return Parsed::Not;
-    };
-    let minor = number(s, after);
-    let Parsed::Is(b) = minor else {
-        return Parsed::Not;
-    };
-    joined(a, b)
+    joined(number(s, before), number(s, after))
 }
 
 // One byte of standard input, or 256 at its end.
@@ -197,6 +201,19 @@ fn more(n: usize, most: usize) -> usize {
         if n < 1000000 {
             return n + 1;
         }
+    }
+    n
+}
+
+// A line's length without a carriage return at its end, which some keyboards and files put before the line feed.
+pub fn without_return(line: &[u8], n: usize) -> usize
+    ensures { λ r. ⌜ r ≤ n ⌝ }
+{
+    if n == 0 {
+        return 0;
+    }
+    if byte(line, n - 1) == b'\r' {
+        return n - 1;
     }
     n
 }

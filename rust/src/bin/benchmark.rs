@@ -1,6 +1,6 @@
-//! benchmark [--svg FILE] [--note TEXT]: nanoseconds of each call, the proved library beside the second program's plain Rust,
+//! benchmark [--short] [--svg FILE] [--note TEXT]: nanoseconds of each call, the proved library beside the second program's plain Rust,
 //! on the same inputs in one run. The note, such as the machine and the archive, is printed and put into the drawing. Built
-//! without the feature `library` the second program stands in for the library.
+//! without the feature `library` the second program stands in for the library. --short: one process, and no growth.
 //! benchmark --raw: the table's measures of this process alone, one to a line.
 
 use second::bench::{self, measure, median, Measured, Op, OPS};
@@ -30,22 +30,24 @@ const BAR: f64 = 1.1;
 /// nanoseconds.
 const PROCESSES: usize = 5;
 
-const USAGE: &str = "benchmark [--svg FILE] [--note TEXT] | --raw";
+const USAGE: &str = "benchmark [--short] [--svg FILE] [--note TEXT] | --raw";
 
 struct Options {
     svg: Option<String>,
     note: String,
     raw: bool,
+    short: bool,
 }
 
 fn options() -> Option<Options> {
-    let mut options = Options { svg: None, note: String::new(), raw: false };
+    let mut options = Options { svg: None, note: String::new(), raw: false, short: false };
     let mut words = std::env::args().skip(1);
     while let Some(word) = words.next() {
         match word.as_str() {
             "--svg" => options.svg = Some(words.next()?),
             "--note" => options.note = words.next()?,
             "--raw" => options.raw = true,
+            "--short" => options.short = true,
             _ => return None,
         }
     }
@@ -88,7 +90,7 @@ fn one_process() -> Option<Vec<Measured>> {
 
 /// Each call at N = C, and recovery beside a plain read.
 fn table(processes: &[Vec<Measured>]) {
-    println!("nanoseconds a call: library, plain Rust, ratio; the medians of {PROCESSES} processes' medians of alternating samples\n");
+    println!("nanoseconds a call: library, plain Rust, ratio; the medians of {} processes' medians of alternating samples\n", processes.len());
     print!("{:28}", "N = C");
     SIZES.iter().for_each(|size| print!("{size:>28}"));
     let (mut start, mut above, mut strays) = (f64::NAN, Vec::new(), Vec::new());
@@ -156,11 +158,15 @@ fn main() -> ExitCode {
         return ExitCode::SUCCESS;
     }
     println!("{}\n{}\n", title(), options.note);
-    let Some(processes) = (0..PROCESSES).map(|_| one_process()).collect::<Option<Vec<_>>>() else {
+    let count = if options.short { 1 } else { PROCESSES };
+    let Some(processes) = (0..count).map(|_| one_process()).collect::<Option<Vec<_>>>() else {
         eprintln!("benchmark: a process of its own did not end with its measures");
         return ExitCode::FAILURE;
     };
     table(&processes);
+    if options.short {
+        return ExitCode::SUCCESS;
+    }
     let panels = growth();
     print_growth(&panels);
     let Some(file) = options.svg else {

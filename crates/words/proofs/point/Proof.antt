@@ -1,24 +1,27 @@
--- `words::point` meets its contract. It ends: the bytes of the word that are left fall.
-use Prim.Native.Nat.{_-_}
+-- `words::point` is the word's first point, or its end. By the bytes that remain.
 use borrow.Author.Needs.{needs}
+use Prim.Native.Nat.{_-_, _≤_}
+use mathlib.Core.Path.{_≡_, refl, sym, _∙_}
 use native.Mathlib.Omega.{arith}
+use Rattle.words.specs.Words.{pointIn}
+use Rattle.words.proofs.Digits.{point-here, point-on, point-end}
 use Rattle.words.proofs.point.Statement.{statement}
 use Rattle.words.proofs.point.Tie as tie
 
 abbrev Inv-loop : tie.InvT-loop
-Inv-loop s to i₀ i = Unit {0}
+Inv-loop s to i₀ i = pointIn (to - i₀) s i₀ ≡ pointIn (to - i) s i
 
 abbrev μ-loop : tie.MeasureT-loop
 μ-loop s to i₀ i = to - i
 
 loop-holds : tie.Need-loop-holds Inv-loop μ-loop
-loop-holds c = search needs
+loop-holds c = refl
 
 byte-requires : tie.Need-byte-requires Inv-loop μ-loop
 byte-requires c κs = search needs
 
 returns : tie.Need-returns Inv-loop μ-loop
-returns c = search needs
+returns c = sym (c .before .before .before .loop .inv ∙ point-here _ _ _ (omega arith) (omega arith))
 
 add-i : tie.Need-add-i Inv-loop μ-loop
 add-i c = omega arith
@@ -27,10 +30,10 @@ loop-less : tie.Need-loop-less Inv-loop μ-loop
 loop-less c = omega arith
 
 loop-again : tie.Need-loop-again Inv-loop μ-loop
-loop-again c = search needs
+loop-again c = c .before .before .before .loop .inv ∙ point-on _ _ _ (omega arith) (λ z. omega arith)
 
 returns-2 : tie.Need-returns-2 Inv-loop μ-loop
-returns-2 c = search needs
+returns-2 c = sym (c .before .loop .inv ∙ point-end _ _ _ (omega arith))
 
 pub point-spec : {M : Type 1} → statement M
 point-spec =

@@ -1,0 +1,162 @@
+-- The call that was made is the papers' call: what it leaves of the buffers that it is lent, framed by those that it isn't, and its `Did` by
+-- its answer. And which call a number asks for.
+use Prim.Native.Nat.{ℕ, _+_, _≤_, _<_}
+use mathlib.Core.Path.{_≡_, refl, sym, ap, subst, _∙_}
+use mathlib.Core.List.{List, []}
+use native.Mathlib.Omega.{arith}
+use borrow.Author.Tests.{ne-eqb, lt-ltb}
+use lib.ListN.{take, drop}
+use Rattle.scope.specs.Bytes.{put}
+use Rattle.scope.specs.Keeper.{Keeper, Answer, Outcome, done, valueOf, rowAt, withState, withMedium, withWaiting}
+use Rattle.scope.specs.Refusals.{Call, RecoveryStart, RecoveryStep, Begin, Commit, Abort, Force, Read, WriteBack, Cut, Write}
+use Rattle.scope.specs.Calls.{recoveryStart, recoveryStep, begin, read, write, commit, abort, force, writeBack, cut, act}
+use Rattle.scope.proofs.Frames.{onto, passed, frame, start-any-state}
+use Rattle.state.specs.State.{stateOf}
+use Rattle.state.specs.Lent.{lentTo, stateless}
+use Rattle.keeper.specs.Answers.{handed, leaves}
+use Rattle.keeper.specs.declared.State.{State}
+use Rattle.console.specs.declared.Asked.{Asked}
+use Rattle.console.specs.declared.Did.{Did}
+use Rattle.console.specs.Made.{Place, numberedCall, callOf, nowhere, forcePlace, placeOf, didOf, Made}
+use Rattle.console.proofs.Brings.{Brings, brings-begin, brings-abort, brings-write, brings-commit, brings-read, brings-start, brings-cut, brings-back, brings-force, brings-step, force-slots}
+
+-- which call a number asks for
+numbered : (a : Asked) (n : ℕ) → a .call ≡ n → callOf a ≡ numberedCall n (a .cell) (a .value) (a .entry)
+numbered a n e = ap (λ (i : ℕ). numberedCall i (a .cell) (a .value) (a .entry)) e
+
+pub is-step : (a : Asked) → 5 ≤ a .call → (a .call ≡ 5 → ⊥) → (a .call ≡ 6 → ⊥) → (a .call ≡ 7 → ⊥) → (a .call ≡ 9 → ⊥) → callOf a ≡ RecoveryStep
+unfolding numberedCall
+is-step a h x5 x6 x7 x9 =
+    simp (
+      ne-eqb (a .call) 0 (λ z. omega arith),
+      ne-eqb (a .call) 1 (λ z. omega arith),
+      ne-eqb (a .call) 2 (λ z. omega arith),
+      ne-eqb (a .call) 3 (λ z. omega arith),
+      ne-eqb (a .call) 4 (λ z. omega arith),
+      ne-eqb (a .call) 5 x5,
+      ne-eqb (a .call) 6 x6,
+      ne-eqb (a .call) 7 x7,
+      ne-eqb (a .call) 9 x9,
+    )
+
+-- an answer that is known to be y says what y says
+pub did-as : {A : Type 0} (say : A → Answer) (place : Answer → Place) (x y : A) (s : State) (d : Did) → x ≡ y → d ≡ didOf (say y) s (place (say y))
+    → d ≡ didOf (say x) s (place (say x))
+did-as say place x y s d e r = r ∙ ap (λ a. didOf (say a) s (place (say a))) (sym e)
+
+pub placed : (a : Answer) (s : State) (at at′ size : ℕ) (d : Did) → at ≡ at′ → d ≡ didOf a s (record { at = at; size = size })
+    → d ≡ didOf a s (record { at = at′; size = size })
+placed a s at at′ size d e r = r ∙ ap (λ (i : ℕ). didOf a s (record { at = i; size = size })) e
+
+-- force's answer: 0, and nothing is stored, or an entry's number
+pub force-none : (slots n : ℕ) (s : State) (d : Did) → n ≡ 0 → d ≡ didOf (done 0) s nowhere → d ≡ didOf (done n) s (forcePlace slots (done n))
+force-none slots n s d e r = r ∙ ap (λ (i : ℕ). didOf (done i) s (forcePlace slots (done i))) (sym e)
+
+pub force-row : (slots n at : ℕ) (s : State) (d : Did) → (n ≡ 0 → ⊥) → at ≡ 32 + rowAt slots n
+    → d ≡ didOf (done n) s (record { at = at; size = 32 }) → d ≡ didOf (done n) s (forcePlace slots (done n))
+force-row slots n at s d h e r = rw (lt-ltb 0 n (omega arith)) (placed (done n) s at (32 + rowAt slots n) 32 d e r)
+
+-- and only a state with rows has an entry to store
+pub force-fits : (s next : State) (m w m2 w2 : List ℕ) (x : Answer) → leaves x next m2 [] [] [] w2 ≡ force (handed s m [] [] [] w) → 0 < valueOf x
+    → 0 < s .numbers .slots
+unfolding act handed leaves lentTo stateOf
+force-fits s next m w m2 w2 x e h = force-slots (handed s m [] [] [] w) (subst (λ (o : Outcome). 0 < valueOf (o .answer)) e h)
+
+-- a call on what it is lent, framed by the rest
+framed : (a : Call) (g k : Keeper) (o : Outcome) → o ≡ act a k → passed a g o ≡ act a (onto a g k)
+framed a g k o e = ap (passed a g) e ∙ sym (frame a g k)
+
+module _ (asked : Asked) (s next : State) (m c f l w m2 c2 f2 l2 w2 : List ℕ) (x : Answer) (d : Did) where
+  abbrev before : Keeper
+  before = handed s m c f l w
+
+  abbrev after : Keeper
+  after = handed (d .state) m2 c2 f2 l2 w2
+
+  made : (a : Call) → callOf asked ≡ a → Brings (placeOf a (s .numbers .slots) (act a before .answer)) before (act a before)
+      → leaves x next m2 c2 f2 l2 w2 ≡ act a before → d ≡ didOf x next (placeOf a (s .numbers .slots) x) → Made (callOf asked) before d after
+  unfolding handed leaves lentTo stateOf
+  made a q b e r =
+      subst (λ (i : Call). Made i before d after) (sym q)
+      (record {
+        keeper = ap (λ (t : State). handed t m2 c2 f2 l2 w2) at-state ∙ ap (λ (o : Outcome). o .keeper) e;
+        did =
+            subst (λ (o : Outcome). d ≡ didOf (o .answer) (d .state) (placeOf a (s .numbers .slots) (o .answer))) e
+            (r ∙ ap (λ (t : State). didOf x t (placeOf a (s .numbers .slots) x)) (sym at-state));
+        brought =
+            subst (λ (z : Did). m2 ≡ put m (z .at) (take (z .size) (drop (z .at) m2))) (sym r)
+            (subst (λ (o : Outcome). Brings (placeOf a (s .numbers .slots) (o .answer)) before o) (sym e) b);
+      })
+    where
+      at-state : d .state ≡ next
+      at-state = ap (λ (z : Did). z .state) r
+
+-- call by call: what the keeper's method ensures, and what its answer was turned into
+module _ (asked : Asked) (s next : State) (m c f l w : List ℕ) (x : Answer) (d : Did) where
+  abbrev k : Keeper
+  k = handed s m c f l w
+
+  pub begin-made : (c2 f2 l2 w2 : List ℕ) → asked .call ≡ 0 → leaves x next [] c2 f2 l2 w2 ≡ begin (handed s [] c f l w) → d ≡ didOf x next nowhere
+      → Made (callOf asked) k d (handed (d .state) m c2 f2 l2 w2)
+  unfolding numberedCall act handed leaves lentTo withMedium
+  begin-made c2 f2 l2 w2 n e r =
+      made asked s next m c f l w m c2 f2 l2 w2 x d Begin (numbered asked 0 n) (brings-begin k) (framed Begin k (handed s [] c f l w) _ e) r
+
+  pub write-made : (c2 f2 l2 w2 : List ℕ) → asked .call ≡ 1 → leaves x next [] c2 f2 l2 w2 ≡ write (asked .cell) (asked .value) (handed s [] c f l w) → d ≡ didOf x next nowhere
+      → Made (callOf asked) k d (handed (d .state) m c2 f2 l2 w2)
+  unfolding numberedCall act handed leaves lentTo withMedium
+  write-made c2 f2 l2 w2 n e r =
+      made asked s next m c f l w m c2 f2 l2 w2 x d (Write (asked .cell) (asked .value)) (numbered asked 1 n) (brings-write (asked .cell) (asked .value) k)
+      (framed (Write (asked .cell) (asked .value)) k (handed s [] c f l w) _ e) r
+
+  pub abort-made : (c2 f2 l2 w2 : List ℕ) → asked .call ≡ 2 → leaves x next [] c2 f2 l2 w2 ≡ abort (handed s [] c f l w) → d ≡ didOf x next nowhere
+      → Made (callOf asked) k d (handed (d .state) m c2 f2 l2 w2)
+  unfolding numberedCall act handed leaves lentTo withMedium
+  abort-made c2 f2 l2 w2 n e r =
+      made asked s next m c f l w m c2 f2 l2 w2 x d Abort (numbered asked 2 n) (brings-abort k) (framed Abort k (handed s [] c f l w) _ e) r
+
+  pub commit-made : (w2 : List ℕ) → asked .call ≡ 3 → leaves x next [] [] [] [] w2 ≡ commit (handed s [] [] [] [] w) → d ≡ didOf x next nowhere
+      → Made (callOf asked) k d (handed (d .state) m c f l w2)
+  unfolding numberedCall act handed leaves lentTo
+  commit-made w2 n e r =
+      made asked s next m c f l w m c f l w2 x d Commit (numbered asked 3 n) (brings-commit k) (framed Commit k (handed s [] [] [] [] w) _ e) r
+
+  pub read-made : asked .call ≡ 4 → leaves x next [] c [] [] [] ≡ read (asked .cell) (handed s [] c [] [] []) → d ≡ didOf x next nowhere
+      → Made (callOf asked) k d (handed (d .state) m c f l w)
+  unfolding numberedCall act handed leaves lentTo
+  read-made n e r =
+      made asked s next m c f l w m c f l w x d (Read (asked .cell)) (numbered asked 4 n) (brings-read (asked .cell) k)
+      (framed (Read (asked .cell)) k (handed s [] c [] [] []) _ e) r
+
+  pub force-made : (m2 : List ℕ) → asked .call ≡ 5 → leaves x next m2 [] [] [] w ≡ force (handed s m [] [] [] w) → d ≡ didOf x next (placeOf Force (s .numbers .slots) x)
+      → Made (callOf asked) k d (handed (d .state) m2 c f l w)
+  unfolding numberedCall act handed leaves lentTo stateOf
+  force-made m2 n e r =
+      made asked s next m c f l w m2 c f l w x d Force (numbered asked 5 n) (brings-force k) (framed Force k (handed s m [] [] [] w) _ e) r
+
+  pub cut-made : (m2 : List ℕ) → asked .call ≡ 6 → leaves x next m2 [] f [] [] ≡ cut (asked .entry) (handed s m [] f [] []) → d ≡ didOf x next (placeOf (Cut (asked .entry)) (s .numbers .slots) x)
+      → Made (callOf asked) k d (handed (d .state) m2 c f l w)
+  unfolding numberedCall act handed leaves lentTo stateOf
+  cut-made m2 n e r =
+      made asked s next m c f l w m2 c f l w x d (Cut (asked .entry)) (numbered asked 6 n) (brings-cut k (asked .entry))
+      (framed (Cut (asked .entry)) k (handed s m [] f [] []) _ e) r
+
+  pub back-made : (m2 f2 : List ℕ) → asked .call ≡ 7 → leaves x next m2 c f2 l [] ≡ writeBack (asked .cell) (handed s m c f l [])
+      → d ≡ didOf x next (placeOf (WriteBack (asked .cell)) (s .numbers .slots) x) → Made (callOf asked) k d (handed (d .state) m2 c f2 l w)
+  unfolding numberedCall act handed leaves lentTo stateOf withWaiting
+  back-made m2 f2 n e r =
+      made asked s next m c f l w m2 c f2 l w x d (WriteBack (asked .cell)) (numbered asked 7 n) (brings-back k (asked .cell))
+      (framed (WriteBack (asked .cell)) k (handed s m c f l []) _ e) r
+
+  pub step-made : (m2 : List ℕ) → callOf asked ≡ RecoveryStep → leaves x next m2 c [] [] [] ≡ recoveryStep (handed s m c [] [] [])
+      → d ≡ didOf x next (placeOf RecoveryStep (s .numbers .slots) x) → Made (callOf asked) k d (handed (d .state) m2 c f l w)
+  unfolding act handed leaves lentTo stateOf
+  step-made m2 n e r =
+      made asked s next m c f l w m2 c f l w x d RecoveryStep n (brings-step k) (framed RecoveryStep k (handed s m c [] [] []) _ e) r
+
+  pub start-made : (c2 f2 l2 : List ℕ) → asked .call ≡ 9 → leaves x next m c2 f2 l2 w ≡ recoveryStart (stateless m c f l w) → d ≡ didOf x next nowhere
+      → Made (callOf asked) k d (handed (d .state) m c2 f2 l2 w)
+  unfolding numberedCall act handed leaves lentTo stateless withState
+  start-made c2 f2 l2 n e r =
+      made asked s next m c f l w m c2 f2 l2 w x d RecoveryStart (numbered asked 9 n) (brings-start k)
+      (e ∙ sym (start-any-state (stateOf (s .numbers) (s .phase)) (stateless m c f l w))) r

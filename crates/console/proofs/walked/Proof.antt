@@ -1,0 +1,69 @@
+-- `console::walked` says the answer, and the cell or the head where one was stored.
+use borrow.Author.Needs.{needs}
+use Rattle.console.proofs.Making.{did-as, placed}
+use Rattle.recovery.specs.Answers.{stepped}
+use Rattle.scope.specs.Keeper.{cell}
+use Rattle.console.specs.Made.{stepPlace}
+use Rattle.console.proofs.walked.Statement.{statement}
+use Rattle.console.proofs.walked.Tie as tie
+
+enum-known-said : tie.Need-enum-known-said
+enum-known-said c = search needs
+
+cast-answer : tie.Need-cast-answer
+cast-answer c = search needs
+
+cell-at-requires : tie.Need-cell-at-requires
+cell-at-requires c κs = search needs
+
+answer-requires : tie.Need-answer-requires
+answer-requires c κs = search needs
+
+enum-told : tie.Need-enum-told
+enum-told c = search needs
+
+answer-requires-2 : tie.Need-answer-requires-2
+answer-requires-2 c κs = search needs
+
+enum-told-2 : tie.Need-enum-told-2
+enum-told-2 c = search needs
+
+answer-requires-3 : tie.Need-answer-requires-3
+answer-requires-3 c κs = search needs
+
+enum-known-said-2 : tie.Need-enum-known-said-2
+enum-known-said-2 c = search needs
+
+refusal-requires : tie.Need-refusal-requires
+refusal-requires c κs = search needs
+
+returns : tie.Need-returns
+returns c = did-as stepped (stepPlace _) _ _ _ _ (c .before .before .before .said .given .1) (placed (cell (c .before .before .before .said .given .0 .0)) _ _ _ _ _ (c .before .cell-at .ensures) (c .answer .ensures))
+
+returns-2 : tie.Need-returns-2
+returns-2 c = did-as stepped (stepPlace _) _ _ _ _ (c .before .enum-told .given .1) (c .answer2 .ensures)
+
+returns-3 : tie.Need-returns-3
+returns-3 c = did-as stepped (stepPlace _) _ _ _ _ (c .before .enum-told2 .given .1) (c .answer3 .ensures)
+
+returns-4 : tie.Need-returns-4
+returns-4 c = did-as stepped (stepPlace _) _ _ _ _ (c .before .before .said2 .given .1) (c .refusal .ensures)
+
+pub walked-spec : {M : Type 1} → statement M
+walked-spec =
+    tie.close
+    (tie.spec
+    enum-known-said
+    cast-answer
+    cell-at-requires
+    answer-requires
+    enum-told
+    answer-requires-2
+    enum-told-2
+    answer-requires-3
+    enum-known-said-2
+    refusal-requires
+    returns
+    returns-2
+    returns-3
+    returns-4)

@@ -1,0 +1,93 @@
+-- Laws of words as numbers and releases: one byte more, by what it is; and that a number is below 2^32.
+use Prim.Native.Nat.{ℕ, zero, suc, _+_, _*_, _-_, _≤_, _<_}
+use mathlib.Core.Path.{_≡_, refl, sym, ap, _∙_}
+use mathlib.Core.Bool.{Bool, true, false, _&&_}
+use mathlib.Core.List.{List}
+use mathlib.Core.Option.{Option, none, some}
+use native.Mathlib.Numerals.{add-one}
+use native.Mathlib.Omega.{arith}
+use borrow.Author.Tests.{le-leb, lt-leb, lt-ltb, le-ltb, eq-eqb, ne-eqb}
+use lib.Dec.{leb, ltb, eqb}
+use lib.ListN.{getD}
+use Rattle.scope.specs.Bytes.{pick}
+use Rattle.words.specs.declared.Parsed.{Parsed}
+use Rattle.words.specs.declared.Parsed.the-variants.{Is, Not}
+use Rattle.words.specs.Words.{parsed, isDigit, more, digits, wordNumber, pointIn, joinedRelease, wordRelease}
+
+-- how many bytes are left, as the definitions recur on it
+left-of : (i to : ℕ) → i < to → to - i ≡ suc (to - (i + 1))
+left-of i to h = omega arith
+
+module _ (s : List ℕ) (i to n : ℕ) (h : i < to) where
+  abbrev b : ℕ
+  b = getD s i 0
+
+  opened : digits (to - i) s i n ≡ pick (isDigit b && leb (more n b) 4294967295) (digits (to - (i + 1)) s (i + 1) (more n b)) none
+  unfolding digits
+  opened = ap (λ (k : ℕ). digits k s i n) (left-of i to h)
+
+  pub digits-low : b < 48 → digits (to - i) s i n ≡ none
+  unfolding isDigit
+  digits-low q = opened ∙ rw (lt-leb 48 b q)
+
+  pub digits-high : 57 < b → 48 ≤ b → digits (to - i) s i n ≡ none
+  unfolding isDigit
+  digits-high q p = opened ∙ rw (le-leb 48 b p, lt-leb b 57 q)
+
+  pub digits-large : (m : ℕ) → m ≡ more n b → 48 ≤ b → b ≤ 57 → 4294967295 < m → digits (to - i) s i n ≡ none
+  unfolding isDigit
+  digits-large m e p q g = opened ∙ rw (le-leb 48 b p, le-leb b 57 q, lt-leb (more n b) 4294967295 (omega arith))
+
+  pub digits-more : (m : ℕ) → m ≡ more n b → 48 ≤ b → b ≤ 57 → m ≤ 4294967295 → digits (to - i) s i n ≡ digits (to - (i + 1)) s (i + 1) m
+  unfolding isDigit
+  digits-more m e p q g =
+      opened ∙ rw (le-leb 48 b p, le-leb b 57 q, le-leb (more n b) 4294967295 (omega arith)) (ap (digits (to - (i + 1)) s (i + 1)) (sym e))
+
+pub digits-end : (s : List ℕ) (i to n : ℕ) → to ≤ i → digits (to - i) s i n ≡ some n
+unfolding digits
+digits-end s i to n h = let z : to - i ≡ 0 = omega arith in ap (λ (k : ℕ). digits k s i n) z
+
+pub number-none : (s : List ℕ) (from to : ℕ) → to ≤ from → none ≡ wordNumber s from to
+unfolding wordNumber
+number-none s from to h = rw (le-ltb from to h)
+
+pub number-is : (s : List ℕ) (from to : ℕ) (x : Option ℕ) → from < to → digits (to - from) s from 0 ≡ x → x ≡ wordNumber s from to
+unfolding wordNumber
+number-is s from to x h e = rw (lt-ltb from to h) (sym e)
+
+-- points
+module _ (s : List ℕ) (i to : ℕ) where
+  pub point-here : i < to → getD s i 0 ≡ 46 → pointIn (to - i) s i ≡ i
+  unfolding pointIn
+  point-here h e = ap (λ (k : ℕ). pointIn k s i) (left-of i to h) ∙ rw (eq-eqb (getD s i 0) 46 e)
+
+  pub point-on : i < to → (getD s i 0 ≡ 46 → ⊥) → pointIn (to - i) s i ≡ pointIn (to - (i + 1)) s (i + 1)
+  unfolding pointIn
+  point-on h e = ap (λ (k : ℕ). pointIn k s i) (left-of i to h) ∙ rw (ne-eqb (getD s i 0) 46 e)
+
+  pub point-end : to ≤ i → pointIn (to - i) s i ≡ i
+  unfolding pointIn
+  point-end h = let z : to - i ≡ 0 = omega arith in ap (λ (k : ℕ). pointIn k s i) z
+
+-- releases
+module _ (x y : Parsed) (a b : ℕ) (e : x ≡ Is a) (f : y ≡ Is b) where
+  both : joinedRelease (parsed x) (parsed y) ≡ pick (leb a 65535 && leb b 65535) (some (a + 65536 * b)) none
+  both = ap (λ (z : Parsed). joinedRelease (parsed z) (parsed y)) e ∙ ap (λ (z : Parsed). joinedRelease (some a) (parsed z)) f
+
+  pub join-major : 65535 < a → none ≡ joinedRelease (parsed x) (parsed y)
+  join-major h = sym (both ∙ rw (lt-leb a 65535 h))
+
+  pub join-minor : a ≤ 65535 → 65535 < b → none ≡ joinedRelease (parsed x) (parsed y)
+  join-minor g h = sym (both ∙ rw (le-leb a 65535 g, lt-leb b 65535 h))
+
+  pub join-both : a ≤ 65535 → b ≤ 65535 → some (a + 65536 * b) ≡ joinedRelease (parsed x) (parsed y)
+  join-both g h = sym (both ∙ rw (le-leb a 65535 g, le-leb b 65535 h))
+
+module _ (s : List ℕ) (from to p : ℕ) (e : p ≡ pointIn (to - from) s from) where
+  pub release-none : to ≤ p → none ≡ wordRelease s from to
+  unfolding wordRelease
+  release-none h = rw (← e, le-ltb p to h)
+
+  pub release-is : (r x y : Option ℕ) → p < to → x ≡ wordNumber s from p → y ≡ wordNumber s (p + 1) to → r ≡ joinedRelease x y → r ≡ wordRelease s from to
+  unfolding wordRelease
+  release-is r x y h q t j = rw (← e, lt-ltb p to h, ← q, ← t) j
