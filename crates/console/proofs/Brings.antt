@@ -2,19 +2,19 @@
 use Prim.Native.Nat.{ℕ, zero, suc, _+_, _*_, _-_, _%_, _≤_, _<_}
 use mathlib.Core.Path.{_≡_, refl, sym, ap, subst, _∙_}
 use mathlib.Core.Bool.{Bool, true, false, _&&_}
-use mathlib.Core.List.{List, []}
+use mathlib.Core.List.{List}
 use mathlib.Core.Option.{Option, none, some}
 use native.Mathlib.Nat.{mod-lt, zero-add}
 use native.Mathlib.Omega.{arith}
 use borrow.Author.Tests.{eqb-true, leb-false, lt-ltb}
-use lib.Dec.{eqb, ltb}
+use lib.Dec.{ltb}
 use lib.ListN.{length, take, drop, getD}
 use Rattle.scope.specs.Bytes.{pick, bytesOf, numberAt, put}
 use Rattle.scope.specs.Row.{Entry}
-use Rattle.scope.specs.Keeper.{Keeper, Outcome, done, refused, head, clean, stored, idle, valueOf, mediumLength, rowAt, cellAt, waitingRow, headBytes, withState, withMedium, withWaiting, madeTo, storedNext, droppedTo, storeCell, storeHead}
+use Rattle.scope.specs.Keeper.{Keeper, Outcome, done, refused, head, clean, stored, idle, valueOf, mediumLength, rowAt, cellAt, waitingRow, headBytes, withState, withMedium, madeTo, storedNext, droppedTo, storeCell, storeHead}
 use Rattle.scope.specs.Recovery.{journal, tableOf, differing}
 use Rattle.scope.specs.Refusals.{Call, RecoveryStart, RecoveryStep, Begin, Commit, Abort, Force, Read, WriteBack, Cut, Write, isMedium, isRows, lent, unfit, tests, refusal}
-use Rattle.scope.specs.Calls.{unless, startWith, unlessStart, recoveryStart, stepAt, recoveryStep, force, cleaned, writeBack, cut, act}
+use Rattle.scope.specs.Calls.{unless, stepAt, cleaned, act, performed}
 use Rattle.scope.proofs.Bytes.{put-same, length-row, length-bytesOf}
 use Rattle.scope.proofs.Refusals.{refusal-none}
 use Rattle.scope.proofs.Represents.{and-true}
@@ -23,7 +23,7 @@ use Rattle.scope.proofs.StepCall.{differing-some}
 use Rattle.scope.proofs.HeadStores.{head#}
 use Rattle.scope.proofs.Sound.{Sound, sound-facts, fit-sound, fit-lent}
 use Rattle.scope.proofs.Frames.{frame}
-use Rattle.console.specs.Made.{Place, nowhere, headPlace, rowPlace, cellPlace, forcePlace, cutPlace, backPlace, stepPlace, placeOf}
+use Rattle.console.specs.Made.{Place, nowhere, headPlace, cellPlace, forcePlace, backPlace, stepPlace, placeOf}
 
 abbrev pub Brings : Place → Keeper → Outcome → Type 0
 Brings p k o = o .keeper .medium ≡ put (k .medium) (p .at) (take (p .size) (drop (p .at) (o .keeper .medium)))
@@ -56,7 +56,7 @@ unfolding put
 brings-read c k = ap (λ (o : Outcome). o .keeper .medium) (frame (Read c) k k)
 
 pub brings-start : (k : Keeper) → Brings nowhere k (act RecoveryStart k)
-unfolding put act recoveryStart
+unfolding put act performed
 brings-start k = go (refusal RecoveryStart k)
   where
     J : Option (List Entry)
@@ -81,7 +81,7 @@ module _ (k : Keeper) where
   unless-brings : (a : Call) (o : Outcome) → ((n : ℕ) → placeOf a C (refused n) ≡ nowhere)
       → (refusal a k ≡ 0 → Brings (placeOf a C (o .answer)) k o)
       → Brings (placeOf a C (unless (refusal a k) o k .answer)) k (unless (refusal a k) o k)
-  unfolding unless put
+  unfolding put
   unless-brings a o z f = go (refusal a k) f
     where
       go : (n : ℕ) → (n ≡ 0 → Brings (placeOf a C (o .answer)) k o) → Brings (placeOf a C (unless n o k .answer)) k (unless n o k)
@@ -119,7 +119,7 @@ module _ (k : Keeper) where
   medium-lent a rest q e = eqb-true _ _ (and-true (isMedium k) rest (sym q ∙ fit-lent a k e) .0)
 
   pub brings-cut : (p : ℕ) → Brings (placeOf (Cut p) C (act (Cut p) k .answer)) k (act (Cut p) k)
-  unfolding act cut withState tests lent
+  unfolding act performed withState tests lent
   brings-cut p =
       unless-brings (Cut p) _ (λ n. refl)
       (λ e. head-put p (medium-lent (Cut p) _ refl (refusal-none (Cut p) k e .0)))
@@ -128,7 +128,7 @@ module _ (k : Keeper) where
   backs c b = pick b (record { answer = stored; keeper = cleaned c (storeCell c k) }) (record { answer = clean; keeper = k })
 
   pub brings-back : (c : ℕ) → Brings (placeOf (WriteBack c) C (act (WriteBack c) k .answer)) k (act (WriteBack c) k)
-  unfolding act writeBack backs cleaned tests lent put
+  unfolding act performed backs cleaned tests lent put
   brings-back c = unless-brings (WriteBack c) (backs c (ltb 0 (getD (k .first) c 0))) (λ n. refl) (λ e. go e (ltb 0 (getD (k .first) c 0)))
     where
       go : refusal (WriteBack c) k ≡ 0 → (b : Bool) → Brings (backPlace C c (backs c b .answer)) k (backs c b)
@@ -147,7 +147,7 @@ module _ (k : Keeper) where
       (record { answer = done 0; keeper = k })
 
   pub brings-force : Brings (placeOf Force C (act Force k .answer)) k (act Force k)
-  unfolding act force forces tests lent put withState withMedium
+  unfolding act performed forces tests lent put withState withMedium
   brings-force = unless-brings Force (forces (ltb (k .state .f) (k .state .l))) (λ n. refl) (λ e. go (refusal-none Force k e .0) (ltb (k .state .f) (k .state .l)))
     where
       go : unfit Force k ≡ false → (b : Bool) → Brings (forcePlace C (forces b .answer)) k (forces b)
@@ -165,7 +165,7 @@ module _ (k : Keeper) where
       (record { answer = clean; keeper = withState (madeTo (k .state .l) (k .state .o) idle (k .state)) k })
 
   pub brings-step : Brings (placeOf RecoveryStep C (act RecoveryStep k .answer)) k (act RecoveryStep k)
-  unfolding act recoveryStep tests lent
+  unfolding act performed tests lent
   brings-step =
       unless-brings RecoveryStep _ (λ n. refl)
       (λ e. go (medium-lent RecoveryStep _ refl (refusal-none RecoveryStep k e .0)) (differing (tableOf N C (k .medium)) (k .current) 0) refl)
@@ -183,7 +183,7 @@ module _ (k : Keeper) where
 
 -- an entry that force answers has a row
 pub force-slots : (k : Keeper) → 0 < valueOf (act Force k .answer) → 0 < k .state .slots
-unfolding act force forces unless tests
+unfolding act performed forces tests
 force-slots k h = go (refusal Force k) refl h
   where
     go : (n : ℕ) → refusal Force k ≡ n → 0 < valueOf (unless n (forces k (ltb (k .state .f) (k .state .l))) k .answer) → 0 < k .state .slots

@@ -1,7 +1,7 @@
 -- The call that was made is the papers' call: what it leaves of the buffers that it is lent, framed by those that it isn't, and its `Did` by
 -- its answer. And which call a number asks for.
 use Prim.Native.Nat.{ℕ, _+_, _≤_, _<_}
-use mathlib.Core.Path.{_≡_, refl, sym, ap, subst, _∙_}
+use mathlib.Core.Path.{_≡_, sym, ap, subst, _∙_}
 use mathlib.Core.List.{List, []}
 use native.Mathlib.Omega.{arith}
 use borrow.Author.Tests.{ne-eqb, lt-ltb}
@@ -9,7 +9,7 @@ use lib.ListN.{take, drop}
 use Rattle.scope.specs.Bytes.{put}
 use Rattle.scope.specs.Keeper.{Keeper, Answer, Outcome, done, valueOf, rowAt, withState, withMedium, withWaiting}
 use Rattle.scope.specs.Refusals.{Call, RecoveryStart, RecoveryStep, Begin, Commit, Abort, Force, Read, WriteBack, Cut, Write}
-use Rattle.scope.specs.Calls.{recoveryStart, recoveryStep, begin, read, write, commit, abort, force, writeBack, cut, act}
+use Rattle.scope.specs.Calls.{act}
 use Rattle.scope.proofs.Frames.{onto, passed, frame, start-any-state}
 use Rattle.state.specs.State.{stateOf}
 use Rattle.state.specs.Lent.{lentTo, stateless}
@@ -57,7 +57,7 @@ pub force-row : (slots n at : ℕ) (s : State) (d : Did) → (n ≡ 0 → ⊥) �
 force-row slots n at s d h e r = rw (lt-ltb 0 n (omega arith)) (placed (done n) s at (32 + rowAt slots n) 32 d e r)
 
 -- and only a state with rows has an entry to store
-pub force-fits : (s next : State) (m w m2 w2 : List ℕ) (x : Answer) → leaves x next m2 [] [] [] w2 ≡ force (handed s m [] [] [] w) → 0 < valueOf x
+pub force-fits : (s next : State) (m w m2 w2 : List ℕ) (x : Answer) → leaves x next m2 [] [] [] w2 ≡ act Force (handed s m [] [] [] w) → 0 < valueOf x
     → 0 < s .numbers .slots
 unfolding act handed leaves lentTo stateOf
 force-fits s next m w m2 w2 x e h = force-slots (handed s m [] [] [] w) (subst (λ (o : Outcome). 0 < valueOf (o .answer)) e h)
@@ -96,65 +96,65 @@ module _ (asked : Asked) (s next : State) (m c f l w : List ℕ) (x : Answer) (d
   abbrev k : Keeper
   k = handed s m c f l w
 
-  pub begin-made : (c2 f2 l2 w2 : List ℕ) → asked .call ≡ 0 → leaves x next [] c2 f2 l2 w2 ≡ begin (handed s [] c f l w) → d ≡ didOf x next nowhere
+  pub begin-made : (c2 f2 l2 w2 : List ℕ) → asked .call ≡ 0 → leaves x next [] c2 f2 l2 w2 ≡ act Begin (handed s [] c f l w) → d ≡ didOf x next nowhere
       → Made (callOf asked) k d (handed (d .state) m c2 f2 l2 w2)
   unfolding numberedCall act handed leaves lentTo withMedium
   begin-made c2 f2 l2 w2 n e r =
       made asked s next m c f l w m c2 f2 l2 w2 x d Begin (numbered asked 0 n) (brings-begin k) (framed Begin k (handed s [] c f l w) _ e) r
 
-  pub write-made : (c2 f2 l2 w2 : List ℕ) → asked .call ≡ 1 → leaves x next [] c2 f2 l2 w2 ≡ write (asked .cell) (asked .value) (handed s [] c f l w) → d ≡ didOf x next nowhere
+  pub write-made : (c2 f2 l2 w2 : List ℕ) → asked .call ≡ 1 → leaves x next [] c2 f2 l2 w2 ≡ act (Write (asked .cell) (asked .value)) (handed s [] c f l w) → d ≡ didOf x next nowhere
       → Made (callOf asked) k d (handed (d .state) m c2 f2 l2 w2)
   unfolding numberedCall act handed leaves lentTo withMedium
   write-made c2 f2 l2 w2 n e r =
       made asked s next m c f l w m c2 f2 l2 w2 x d (Write (asked .cell) (asked .value)) (numbered asked 1 n) (brings-write (asked .cell) (asked .value) k)
       (framed (Write (asked .cell) (asked .value)) k (handed s [] c f l w) _ e) r
 
-  pub abort-made : (c2 f2 l2 w2 : List ℕ) → asked .call ≡ 2 → leaves x next [] c2 f2 l2 w2 ≡ abort (handed s [] c f l w) → d ≡ didOf x next nowhere
+  pub abort-made : (c2 f2 l2 w2 : List ℕ) → asked .call ≡ 2 → leaves x next [] c2 f2 l2 w2 ≡ act Abort (handed s [] c f l w) → d ≡ didOf x next nowhere
       → Made (callOf asked) k d (handed (d .state) m c2 f2 l2 w2)
   unfolding numberedCall act handed leaves lentTo withMedium
   abort-made c2 f2 l2 w2 n e r =
       made asked s next m c f l w m c2 f2 l2 w2 x d Abort (numbered asked 2 n) (brings-abort k) (framed Abort k (handed s [] c f l w) _ e) r
 
-  pub commit-made : (w2 : List ℕ) → asked .call ≡ 3 → leaves x next [] [] [] [] w2 ≡ commit (handed s [] [] [] [] w) → d ≡ didOf x next nowhere
+  pub commit-made : (w2 : List ℕ) → asked .call ≡ 3 → leaves x next [] [] [] [] w2 ≡ act Commit (handed s [] [] [] [] w) → d ≡ didOf x next nowhere
       → Made (callOf asked) k d (handed (d .state) m c f l w2)
   unfolding numberedCall act handed leaves lentTo
   commit-made w2 n e r =
       made asked s next m c f l w m c f l w2 x d Commit (numbered asked 3 n) (brings-commit k) (framed Commit k (handed s [] [] [] [] w) _ e) r
 
-  pub read-made : asked .call ≡ 4 → leaves x next [] c [] [] [] ≡ read (asked .cell) (handed s [] c [] [] []) → d ≡ didOf x next nowhere
+  pub read-made : asked .call ≡ 4 → leaves x next [] c [] [] [] ≡ act (Read (asked .cell)) (handed s [] c [] [] []) → d ≡ didOf x next nowhere
       → Made (callOf asked) k d (handed (d .state) m c f l w)
   unfolding numberedCall act handed leaves lentTo
   read-made n e r =
       made asked s next m c f l w m c f l w x d (Read (asked .cell)) (numbered asked 4 n) (brings-read (asked .cell) k)
       (framed (Read (asked .cell)) k (handed s [] c [] [] []) _ e) r
 
-  pub force-made : (m2 : List ℕ) → asked .call ≡ 5 → leaves x next m2 [] [] [] w ≡ force (handed s m [] [] [] w) → d ≡ didOf x next (placeOf Force (s .numbers .slots) x)
+  pub force-made : (m2 : List ℕ) → asked .call ≡ 5 → leaves x next m2 [] [] [] w ≡ act Force (handed s m [] [] [] w) → d ≡ didOf x next (placeOf Force (s .numbers .slots) x)
       → Made (callOf asked) k d (handed (d .state) m2 c f l w)
   unfolding numberedCall act handed leaves lentTo stateOf
   force-made m2 n e r =
       made asked s next m c f l w m2 c f l w x d Force (numbered asked 5 n) (brings-force k) (framed Force k (handed s m [] [] [] w) _ e) r
 
-  pub cut-made : (m2 : List ℕ) → asked .call ≡ 6 → leaves x next m2 [] f [] [] ≡ cut (asked .entry) (handed s m [] f [] []) → d ≡ didOf x next (placeOf (Cut (asked .entry)) (s .numbers .slots) x)
+  pub cut-made : (m2 : List ℕ) → asked .call ≡ 6 → leaves x next m2 [] f [] [] ≡ act (Cut (asked .entry)) (handed s m [] f [] []) → d ≡ didOf x next (placeOf (Cut (asked .entry)) (s .numbers .slots) x)
       → Made (callOf asked) k d (handed (d .state) m2 c f l w)
   unfolding numberedCall act handed leaves lentTo stateOf
   cut-made m2 n e r =
       made asked s next m c f l w m2 c f l w x d (Cut (asked .entry)) (numbered asked 6 n) (brings-cut k (asked .entry))
       (framed (Cut (asked .entry)) k (handed s m [] f [] []) _ e) r
 
-  pub back-made : (m2 f2 : List ℕ) → asked .call ≡ 7 → leaves x next m2 c f2 l [] ≡ writeBack (asked .cell) (handed s m c f l [])
+  pub back-made : (m2 f2 : List ℕ) → asked .call ≡ 7 → leaves x next m2 c f2 l [] ≡ act (WriteBack (asked .cell)) (handed s m c f l [])
       → d ≡ didOf x next (placeOf (WriteBack (asked .cell)) (s .numbers .slots) x) → Made (callOf asked) k d (handed (d .state) m2 c f2 l w)
   unfolding numberedCall act handed leaves lentTo stateOf withWaiting
   back-made m2 f2 n e r =
       made asked s next m c f l w m2 c f2 l w x d (WriteBack (asked .cell)) (numbered asked 7 n) (brings-back k (asked .cell))
       (framed (WriteBack (asked .cell)) k (handed s m c f l []) _ e) r
 
-  pub step-made : (m2 : List ℕ) → callOf asked ≡ RecoveryStep → leaves x next m2 c [] [] [] ≡ recoveryStep (handed s m c [] [] [])
+  pub step-made : (m2 : List ℕ) → callOf asked ≡ RecoveryStep → leaves x next m2 c [] [] [] ≡ act RecoveryStep (handed s m c [] [] [])
       → d ≡ didOf x next (placeOf RecoveryStep (s .numbers .slots) x) → Made (callOf asked) k d (handed (d .state) m2 c f l w)
   unfolding act handed leaves lentTo stateOf
   step-made m2 n e r =
       made asked s next m c f l w m2 c f l w x d RecoveryStep n (brings-step k) (framed RecoveryStep k (handed s m c [] [] []) _ e) r
 
-  pub start-made : (c2 f2 l2 : List ℕ) → asked .call ≡ 9 → leaves x next m c2 f2 l2 w ≡ recoveryStart (stateless m c f l w) → d ≡ didOf x next nowhere
+  pub start-made : (c2 f2 l2 : List ℕ) → asked .call ≡ 9 → leaves x next m c2 f2 l2 w ≡ act RecoveryStart (stateless m c f l w) → d ≡ didOf x next nowhere
       → Made (callOf asked) k d (handed (d .state) m c2 f2 l2 w)
   unfolding numberedCall act handed leaves lentTo stateless withState
   start-made c2 f2 l2 n e r =

@@ -1,9 +1,9 @@
 -- The answers on a medium: what 1 and 4 say beside what the answers say of a table; and, with demand 3, that after recovery of a history's medium they are those
 -- for the table worked out afresh.
-use Prim.Native.Nat.{ℕ, zero, suc, _+_, _≤_, _<_}
+use Prim.Native.Nat.{ℕ, suc, _+_}
 use mathlib.Core.Path.{_≡_, refl, sym, ap, subst, _∙_}
 use mathlib.Core.Bool.{Bool, true, false}
-use mathlib.Core.Logic.{_⊎_, inl, inr}
+use mathlib.Core.Logic.{inl, inr}
 use mathlib.Core.List.{List}
 use borrow.Author.Tests.{leb-true, leb-false, le-leb, lt-leb}
 use lib.Dec.{leb}
@@ -12,7 +12,7 @@ use Rattle.scope.specs.Keeper.{Keeper, headOk}
 use Rattle.scope.specs.Recovery.{tableOf}
 use Rattle.scope.specs.Refusals.{RecoveryStep}
 use Rattle.scope.specs.Calls.{act}
-use Rattle.scope.specs.History.{Event, History, now, wanted}
+use Rattle.scope.specs.History.{Event, History, reached, wanted}
 use Rattle.recovered.specs.Recovered.{recovered}
 use Rattle.recovered.proofs.Afresh.{Afresh, recovered-afresh, ended-afresh}
 use Rattle.counter.specs.declared.Order.{Order}
@@ -89,7 +89,7 @@ as-afresh n c k es h e (q, ok, cells, slots) lowest count =
     (order-same n c (wanted n c k es) (e .medium) q ok cells slots lowest count, hand-same n c (wanted n c k es) (e .medium) q ok cells slots lowest count)
 
 pub recovered-answers : RecoveredAnswers
-recovered-answers n c k es h = as-afresh n c k es h (recovered (now n c k es .medium)) (recovered-afresh n c k es h)
+recovered-answers n c k es h = as-afresh n c k es h (recovered (reached n c k es .medium)) (recovered-afresh n c k es h)
 
 pub ended-answers : EndedAnswers
-ended-answers n c k es h e = as-afresh n c k es h (act RecoveryStep (now n c k es) .keeper) (ended-afresh n c k es h e)
+ended-answers n c k es h e = as-afresh n c k es h (act RecoveryStep (reached n c k es) .keeper) (ended-afresh n c k es h e)

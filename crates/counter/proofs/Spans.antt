@@ -6,20 +6,18 @@ use mathlib.Core.Bool.{Bool, true, false}
 use mathlib.Core.List.{List}
 use native.Mathlib.Omega.{arith}
 use borrow.Author.Tests.{lt-ltb, le-ltb, eq-eqb, ne-eqb, le-leb, lt-leb, leb-true}
-use lib.Dec.{ltb, eqb, leb}
+use lib.Dec.{eqb, leb}
 use lib.ListN.{length, getD, drop, length-drop}
 use Rattle.scope.specs.Bytes.{pick, numberAt}
 use Rattle.scope.specs.Keeper.{headOk, refusalOf, partOf, cellsOf}
 use Rattle.scope.specs.Recovery.{tableOf}
-use Rattle.scope.specs.Refusals.{refusal, tests}
-use Rattle.scope.specs.Calls.{tableView, unless}
+use Rattle.scope.specs.Refusals.{TableView, refusal, tests}
+use Rattle.scope.specs.Calls.{act, performed}
 use Rattle.medium.specs.Lent.{onMedium}
 use Rattle.medium.proofs.Heads.{view-refused}
 use Rattle.medium.proofs.Cells.{cell-value}
 use Rattle.recovery.proofs.Recovering.{Head, head-fits}
-use Rattle.counter.specs.declared.Order.{Order}
 use Rattle.counter.specs.declared.Order.the-variants as order
-use Rattle.counter.specs.declared.Hand.{Hand}
 use Rattle.counter.specs.declared.Hand.the-variants as hand
 use Rattle.counter.specs.declared.Sought.{Sought}
 use Rattle.counter.specs.declared.Sought.the-variants as sought
@@ -133,16 +131,16 @@ from-same s t u c (suc left) b h =
 
 -- the table view
 
-view-ok : (m : List ℕ) (x : ℕ) → x ≡ refusalOf (tableView (onMedium m) .answer) → x ≡ 0 → headOk m ≡ true
+view-ok : (m : List ℕ) (x : ℕ) → x ≡ refusalOf (act TableView (onMedium m) .answer) → x ≡ 0 → headOk m ≡ true
 view-ok m x e h = go (headOk m) refl
   where
     go : (t : Bool) → t ≡ headOk m → headOk m ≡ true
     go true p = sym p
     go false p = absurd (omega (arith, view-refused m false p refl))
 
-module _ (m table : List ℕ) (ok : headOk m ≡ true) (q : table ≡ partOf (tableView (onMedium m) .answer)) where
+module _ (m table : List ℕ) (ok : headOk m ≡ true) (q : table ≡ partOf (act TableView (onMedium m) .answer)) where
   view-table : table ≡ drop (32 + 32 * numberAt 4 4 m) m
-  unfolding tableView refusal tests onMedium unless
+  unfolding act performed refusal tests onMedium
   view-table = q ∙ simp ok
 
   view-head : Head m
@@ -153,16 +151,16 @@ module _ (m table : List ℕ) (ok : headOk m ≡ true) (q : table ≡ partOf (ta
 
 -- the refusals of a span
 
-module _ (m : List ℕ) (no : ℕ) (e : no ≡ refusalOf (tableView (onMedium m) .answer)) (lowest count : ℕ) where
+module _ (m : List ℕ) (no : ℕ) (e : no ≡ refusalOf (act TableView (onMedium m) .answer)) (lowest count : ℕ) where
   pub refused-view : (no ≡ 0 → ⊥) → no ≡ spanRefusal m lowest count
-  unfolding spanRefusal tableView refusal tests onMedium unless
+  unfolding spanRefusal act performed refusal tests onMedium
   refused-view h = go (headOk m) refl
     where
       go : (t : Bool) → headOk m ≡ t → no ≡ pick t (pick (leb (lowest + count) (numberAt 4 0 m)) 0 4) 1
       go true p = absurd (h (e ∙ simp p))
       go false p = e ∙ simp p
 
-  module _ (h : no ≡ 0) (table : List ℕ) (q : table ≡ partOf (tableView (onMedium m) .answer)) where
+  module _ (h : no ≡ 0) (table : List ℕ) (q : table ≡ partOf (act TableView (onMedium m) .answer)) where
     pub refused-span : length table < 8 * (lowest + count) → 4 ≡ spanRefusal m lowest count
     unfolding spanRefusal
     refused-span l =
@@ -206,7 +204,7 @@ module _ (m : List ℕ) (no lowest count : ℕ) (e : no ≡ spanRefusal m lowest
         go true false p q z = absurd (omega arith)
         go false u p q z = absurd (omega arith)
 
-    module _ (table : List ℕ) (q : table ≡ partOf (tableView (onMedium m) .answer)) where
+    module _ (table : List ℕ) (q : table ≡ partOf (act TableView (onMedium m) .answer)) where
       pub span-lent : (8 * (lowest + count) ≤ length table) × (lowest + count ≤ 1024)
       span-lent =
           let s = span-in in

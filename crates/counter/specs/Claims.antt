@@ -10,7 +10,7 @@ use Rattle.scope.specs.Bytes.{pick, numberAt}
 use Rattle.scope.specs.Keeper.{Keeper, headOk}
 use Rattle.scope.specs.Refusals.{RecoveryStep}
 use Rattle.scope.specs.Calls.{act}
-use Rattle.scope.specs.History.{Event, History, now, wanted}
+use Rattle.scope.specs.History.{Event, History, reached, wanted}
 use Rattle.scope.specs.Demands.{ended}
 use Rattle.recovered.specs.Recovered.{recovered}
 use Rattle.counter.specs.declared.Order.{Order}
@@ -90,9 +90,9 @@ AsAfresh n c k es m =
 -- of a medium that is recovered after the history, and of a keeper whose recovery ends by its last step
 abbrev pub RecoveredAnswers : Type 0
 RecoveredAnswers =
-    (n c : ℕ) (k : Keeper) (es : List Event) → History n c k es → AsAfresh n c k es (recovered (now n c k es .medium) .medium)
+    (n c : ℕ) (k : Keeper) (es : List Event) → History n c k es → AsAfresh n c k es (recovered (reached n c k es .medium) .medium)
 
 abbrev pub EndedAnswers : Type 0
 EndedAnswers =
-    (n c : ℕ) (k : Keeper) (es : List Event) → History n c k es → ended (act RecoveryStep (now n c k es) .answer) ≡ true
-    → AsAfresh n c k es (act RecoveryStep (now n c k es) .keeper .medium)
+    (n c : ℕ) (k : Keeper) (es : List Event) → History n c k es → ended (act RecoveryStep (reached n c k es) .answer) ≡ true
+    → AsAfresh n c k es (act RecoveryStep (reached n c k es) .keeper .medium)

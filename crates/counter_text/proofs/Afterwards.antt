@@ -7,7 +7,7 @@ use mathlib.Core.List.{List}
 use lib.Dec.{leb}
 use Rattle.scope.specs.Bytes.{pick, numberAt}
 use Rattle.scope.specs.Keeper.{Keeper, headOk, refusalOf}
-use Rattle.scope.specs.History.{Event, History, now, wanted}
+use Rattle.scope.specs.History.{Event, History, reached, wanted}
 use Rattle.recovered.specs.Recovered.{started, recovered}
 use Rattle.recovered.proofs.Afresh.{history-head, recovered-accepted}
 use Rattle.text.specs.Text.{line, refusedKey}
@@ -22,7 +22,7 @@ use Rattle.counter_text.specs.Screen.{question, orElse, refusedOr, handT
 
 module _ (n c : ℕ) (k : Keeper) (es : List Event) (h : History n c k es) where
   abbrev m : List ℕ
-  m = now n c k es .medium
+  m = reached n c k es .medium
 
   abbrev t : List ℕ
   t = wanted n c k es

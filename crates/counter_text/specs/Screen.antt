@@ -7,7 +7,7 @@ use mathlib.Core.List.{List, [], _∷_, _++_}
 use lib.Dec.{ltb}
 use Rattle.scope.specs.Bytes.{pick}
 use Rattle.scope.specs.Keeper.{Keeper, headOk, refusalOf}
-use Rattle.scope.specs.History.{Event, History, now, wanted}
+use Rattle.scope.specs.History.{Event, History, reached, wanted}
 use Rattle.recovered.specs.Recovered.{started, recovered}
 use Rattle.text.specs.Text.{line, refusedKey, cellText}
 use Rattle.lines.specs.Lines.{nthLine, lineBytes, decimalOf}
@@ -101,7 +101,7 @@ saidOf n t ask.Nothing = line refusedKey 4
 abbrev pub SaysAfresh : Type 0
 SaysAfresh =
     (n c : ℕ) (k : Keeper) (es : List Event) → History n c k es → (s : List ℕ)
-    → screenText s (now n c k es .medium) ≡ saidOf n (wanted n c k es) (question s)
+    → screenText s (reached n c k es .medium) ≡ saidOf n (wanted n c k es) (question s)
 
 -- the unit that the code works with: beyond 32 bits a number is above any N, and so is that of a line that is none
 unfoldable pub least : ℕ → ℕ

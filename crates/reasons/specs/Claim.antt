@@ -9,7 +9,8 @@ use Rattle.scope.specs.Bytes.{numberAt}
 use Rattle.scope.specs.Row.{Entry, update, commitEntry, abortEntry}
 use Rattle.scope.specs.Keeper.{Keeper, done}
 use Rattle.scope.specs.Recovery.{tableOf}
-use Rattle.scope.specs.Calls.{recoveryStart}
+use Rattle.scope.specs.Refusals.{RecoveryStart}
+use Rattle.scope.specs.Calls.{act}
 use Rattle.scope.specs.Demands.{names, storedJournal}
 use Rattle.reasons.specs.declared.Reason.{Reason}
 use Rattle.reasons.specs.declared.Reason.the-variants.{Table, Written, Restored}
@@ -72,6 +73,6 @@ Claims c h es held v d = Claimed c h es held v (d .reason) (d .entry) (d .end)
 -- THE CLAIM, for every medium that recovery accepts and each of its cells: its value is the one that recovery gives, its table's was `held`
 abbrev pub Right : Type 0
 Right =
-    (k : Keeper) (v c : ℕ) → recoveryStart k .answer ≡ done v → (let m = k .medium in let n = numberAt 4 0 m in let s = numberAt 4 4 m in let h = numberAt 4 8 m in
+    (k : Keeper) (v c : ℕ) → act RecoveryStart k .answer ≡ done v → (let m = k .medium in let n = numberAt 4 0 m in let s = numberAt 4 4 m in let h = numberAt 4 8 m in
     c < n
-    → Claims c h (storedJournal n s m) (getD (tableOf n s m) c 0) (getD (recoveryStart k .keeper .current) c 0) (why c h (storedJournal n s m)))
+    → Claims c h (storedJournal n s m) (getD (tableOf n s m) c 0) (getD (act RecoveryStart k .keeper .current) c 0) (why c h (storedJournal n s m)))

@@ -2,7 +2,7 @@
 -- steps are the definition's: a step after the end is refused, so none before the last one ended.
 use Prim.Native.Nat.{ℕ, zero, suc, _+_, _*_, _≤_, _<_}
 use mathlib.Core.Path.{_≡_, refl, sym, ap, subst, _∙_}
-use mathlib.Core.Bool.{Bool, true, false, false≢true, not}
+use mathlib.Core.Bool.{Bool, true, false, false≢true}
 use mathlib.Core.List.{List, [], _∷_}
 use mathlib.Core.Option.{Option, none, some}
 use native.Mathlib.Omega.{arith}
@@ -10,13 +10,13 @@ use lib.Dec.{ltb}
 use lib.ListN.{replicate, length-replicate}
 use Rattle.scope.specs.Bytes.{pick, numberAt}
 use Rattle.scope.specs.Row.{Entry}
-use Rattle.scope.specs.Keeper.{idle, Keeper, Answer, done, refused, cell, head, clean, stored, part, Outcome, isRecovering, headOk, noState, withState, withMedium, droppedTo, madeTo, storeCell, storeHead}
+use Rattle.scope.specs.Keeper.{Keeper, Answer, done, refused, cell, head, clean, stored, part, Outcome, isRecovering, headOk, withState, droppedTo, madeTo}
 use Rattle.scope.specs.Recovery.{tableOf, differing}
 use Rattle.scope.specs.Refusals.{RecoveryStart, RecoveryStep, refusal, tests, unfit}
-use Rattle.scope.specs.Calls.{recoveryStart, recoveryStep, stepAt, unless, act}
-use Rattle.scope.specs.History.{Event, call, powerLoss, happen, after, Allowed, History, now, transactions, wanted}
+use Rattle.scope.specs.Calls.{stepAt, unless, act, performed}
+use Rattle.scope.specs.History.{Event, call, powerLoss, happen, after, Allowed, History, reached, transactions, wanted}
 use Rattle.scope.specs.Demands.{Sized, ended, names, named, storedJournal}
-use Rattle.scope.proofs.Medium.{Stored, n≡, c≡, head-ok}
+use Rattle.scope.proofs.Medium.{n≡, c≡, head-ok}
 use Rattle.scope.proofs.Histories.{Rest, resting, always}
 use Rattle.scope.proofs.Demand3.{safe, ends-soon, ends-afresh, start-never-refused}
 use Rattle.state.specs.Lent.{stateless}
@@ -37,8 +37,8 @@ idle-declined k e z = go (unfit RecoveryStep k) (simp e at z)
     go true q = omega arith
     go false q = omega arith
 
-no-cell-declined : (k : Keeper) → isCell (recoveryStep k .answer) ≡ false → Declined (recoveryStep k .keeper)
-unfolding recoveryStep unless stepAt isRecovering withState droppedTo madeTo
+no-cell-declined : (k : Keeper) → isCell (act RecoveryStep k .answer) ≡ false → Declined (act RecoveryStep k .keeper)
+unfolding act performed stepAt withState droppedTo madeTo
 no-cell-declined k = go (refusal RecoveryStep k) (differing (tableOf (k .state .cells) (k .state .slots) (k .medium)) (k .current) 0) refl
   where
     go : (x : ℕ) (d : Option ℕ) → refusal RecoveryStep k ≡ x → isCell (unless x (stepAt d k) k .answer) ≡ false → Declined (unless x (stepAt d k) k .keeper)
@@ -47,8 +47,8 @@ no-cell-declined k = go (refusal RecoveryStep k) (differing (tableOf (k .state .
     go zero none e f z =
         pick-either (λ (o : Outcome). Declined (o .keeper)) (ltb (k .state .h) (k .state .l)) _ _ (idle-declined _ refl) (idle-declined _ refl) z
 
-declined-same : (k : Keeper) → Declined k → (recoveryStep k .keeper ≡ k) × (ended (recoveryStep k .answer) ≡ false)
-unfolding recoveryStep unless
+declined-same : (k : Keeper) → Declined k → (act RecoveryStep k .keeper ≡ k) × (ended (act RecoveryStep k .answer) ≡ false)
+unfolding act performed
 declined-same k h = go (refusal RecoveryStep k) h
   where
     go : (x : ℕ) → (x ≡ 0 → ⊥) → (unless x (stepAt (differing (tableOf (k .state .cells) (k .state .slots) (k .medium)) (k .current) 0) k) k .keeper ≡ k)
@@ -61,7 +61,7 @@ declined-same k h = go (refusal RecoveryStep k) h
 abbrev stepped : ℕ → Keeper → Keeper
 stepped j k = after (replicate j (call RecoveryStep)) k
 
-stepped-next : (j : ℕ) (k : Keeper) → stepped (suc j) k ≡ stepped j (recoveryStep k .keeper)
+stepped-next : (j : ℕ) (k : Keeper) → stepped (suc j) k ≡ stepped j (act RecoveryStep k .keeper)
 unfolding after happen act
 stepped-next j k = refl
 
@@ -82,24 +82,24 @@ ended-no-cell stored e = absurd (false≢true e)
 ended-no-cell (part b) e = absurd (false≢true e)
 
 -- where the step after j steps ends recovery, the definition stops there too
-steps-ended : (j turns : ℕ) (k : Keeper) → j < turns → ended (recoveryStep (stepped j k) .answer) ≡ true → steps turns k ≡ recoveryStep (stepped j k) .keeper
+steps-ended : (j turns : ℕ) (k : Keeper) → j < turns → ended (act RecoveryStep (stepped j k) .answer) ≡ true → steps turns k ≡ act RecoveryStep (stepped j k) .keeper
 unfolding steps after
 steps-ended j zero k h e = absurd (omega arith)
-steps-ended zero (suc turns) k h e = ap (λ b. pick b (steps turns (recoveryStep k .keeper)) (recoveryStep k .keeper)) (ended-no-cell (recoveryStep k .answer) e)
-steps-ended (suc j) (suc turns) k h e = go (isCell (recoveryStep k .answer)) refl (steps-ended j turns k₁ (omega arith) e₁)
+steps-ended zero (suc turns) k h e = ap (λ b. pick b (steps turns (act RecoveryStep k .keeper)) (act RecoveryStep k .keeper)) (ended-no-cell (act RecoveryStep k .answer) e)
+steps-ended (suc j) (suc turns) k h e = go (isCell (act RecoveryStep k .answer)) refl (steps-ended j turns k₁ (omega arith) e₁)
   where
     k₁ : Keeper
-    k₁ = recoveryStep k .keeper
+    k₁ = act RecoveryStep k .keeper
 
-    e₁ : ended (recoveryStep (stepped j k₁) .answer) ≡ true
-    e₁ = subst (λ x. ended (recoveryStep x .answer) ≡ true) (stepped-next j k) e
+    e₁ : ended (act RecoveryStep (stepped j k₁) .answer) ≡ true
+    e₁ = subst (λ x. ended (act RecoveryStep x .answer) ≡ true) (stepped-next j k) e
 
-    go : (b : Bool) → isCell (recoveryStep k .answer) ≡ b → steps turns k₁ ≡ recoveryStep (stepped j k₁) .keeper
-        → pick b (steps turns k₁) k₁ ≡ recoveryStep (stepped (suc j) k) .keeper
-    go true q r = r ∙ sym (ap (λ x. recoveryStep x .keeper) (stepped-next j k))
+    go : (b : Bool) → isCell (act RecoveryStep k .answer) ≡ b → steps turns k₁ ≡ act RecoveryStep (stepped j k₁) .keeper
+        → pick b (steps turns k₁) k₁ ≡ act RecoveryStep (stepped (suc j) k) .keeper
+    go true q r = r ∙ sym (ap (λ x. act RecoveryStep x .keeper) (stepped-next j k))
     go false q r =
         let n = no-cell-declined k q in
-        absurd (false≢true (sym (declined-same k₁ n .1) ∙ ap (λ x. ended (recoveryStep x .answer)) (sym (declined-stays j k₁ n)) ∙ e₁))
+        absurd (false≢true (sym (declined-same k₁ n .1) ∙ ap (λ x. ended (act RecoveryStep x .answer)) (sym (declined-stays j k₁ n)) ∙ e₁))
 
 -- no more cells are named than there are
 
@@ -119,10 +119,10 @@ allowed-steps (suc j) k = (tt, allowed-steps j (happen (call RecoveryStep) k .ke
 
 module _ (n c : ℕ) (k : Keeper) (es : List Event) (h : History n c k es) where
   abbrev m : List ℕ
-  m = now n c k es .medium
+  m = reached n c k es .medium
 
   rest : Rest n c m (transactions n c k es)
-  rest = resting n c (now n c k es) (transactions n c k es) (safe n c k es h)
+  rest = resting n c (reached n c k es) (transactions n c k es) (safe n c k es h)
 
   -- workspaces of zeros, as the head says
   abbrev zeros : List ℕ
@@ -169,7 +169,7 @@ module _ (n c : ℕ) (k : Keeper) (es : List Event) (h : History n c k es) where
     last-head : (headOk (act RecoveryStep last .keeper .medium) ≡ true) × (numberAt 4 0 (act RecoveryStep last .keeper .medium) ≡ n) × (numberAt 4 4 (act RecoveryStep last .keeper .medium) ≡ c)
     unfolding stateless after happen
     last-head =
-        let s = always n c (powerLoss zeros zeros zeros rows ∷ call RecoveryStart ∷ replicate j (call RecoveryStep)) (now n c k es) (transactions n c k es) (tt, (tt, allowed-steps j _)) (safe n c k es h) in
+        let s = always n c (powerLoss zeros zeros zeros rows ∷ call RecoveryStart ∷ replicate j (call RecoveryStep)) (reached n c k es) (transactions n c k es) (tt, (tt, allowed-steps j _)) (safe n c k es h) in
         let r = resting n c _ _ (always n c (call RecoveryStep ∷ []) last _ (tt, tt) s) in
         (head-ok n c (r .h) (r .J) _ (r .there), n≡ n c (r .h) (r .J) _ (r .there), c≡ n c (r .h) (r .J) _ (r .there))
 
@@ -185,8 +185,8 @@ module _ (n c : ℕ) (k : Keeper) (es : List Event) (h : History n c k es) where
           subst Afresh (sym r) (q, d .0, d .1, d .2)
 
   -- a keeper whose recovery ends by this step leaves such a medium too
-  pub ended-afresh : ended (act RecoveryStep (now n c k es) .answer) ≡ true → Afresh (act RecoveryStep (now n c k es) .keeper)
+  pub ended-afresh : ended (act RecoveryStep (reached n c k es) .answer) ≡ true → Afresh (act RecoveryStep (reached n c k es) .keeper)
   unfolding after happen
   ended-afresh e =
-      let r = resting n c _ _ (always n c (call RecoveryStep ∷ []) (now n c k es) (transactions n c k es) (tt, tt) (safe n c k es h)) in
+      let r = resting n c _ _ (always n c (call RecoveryStep ∷ []) (reached n c k es) (transactions n c k es) (tt, tt) (safe n c k es h)) in
       (ends-afresh n c k es h e, head-ok n c (r .h) (r .J) _ (r .there), n≡ n c (r .h) (r .J) _ (r .there), c≡ n c (r .h) (r .J) _ (r .there))

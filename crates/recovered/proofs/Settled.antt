@@ -11,8 +11,8 @@ use denote.Enum.Declared.{tagOf}
 use lib.ListN.{length, replicate, take, length-replicate}
 use Rattle.scope.specs.Bytes.{pick, numberAt}
 use Rattle.scope.specs.Keeper.{Keeper, Answer, refused, headOk, noState, inRange, sound, withState}
-use Rattle.scope.specs.Refusals.{RecoveryStep, unfit, refusal, tests}
-use Rattle.scope.specs.Calls.{recoveryStart, recoveryStep, unless, unlessStart, act}
+use Rattle.scope.specs.Refusals.{RecoveryStart, RecoveryStep, unfit, refusal, tests}
+use Rattle.scope.specs.Calls.{act, performed}
 use Rattle.scope.proofs.Frames.{onto, frame}
 use Rattle.state.specs.Lent.{lentTo, stateless, left}
 use Rattle.state.specs.declared.Numbers.{Numbers}
@@ -27,7 +27,7 @@ use Rattle.recovered.specs.Recovered.{isCell, steps, started, recovered,
 
 -- one step of those that remain
 
-module _ (n n′ : Numbers) (p p′ : Phase) (m m′ current : List ℕ) (a : Answer) (e : left a n′ p′ m′ current [] [] [] ≡ recoveryStep (lentTo n p m current [] [] [])) where
+module _ (n n′ : Numbers) (p p′ : Phase) (m m′ current : List ℕ) (a : Answer) (e : left a n′ p′ m′ current [] [] [] ≡ act RecoveryStep (lentTo n p m current [] [] [])) where
   pub steps-again : (turns : ℕ) → 0 < turns → isCell a ≡ true → steps turns (lentTo n p m current [] [] []) ≡ steps (turns - 1) (lentTo n′ p′ m′ current [] [] [])
   unfolding steps left
   steps-again zero h t = absurd (omega arith)
@@ -58,7 +58,7 @@ no-cell (step.Refused n) h = refl
 -- a keeper without what a step isn't lent
 
 module _ (g : Keeper) where
-  step-frame : (k : Keeper) → recoveryStep (onto RecoveryStep g k) ≡ record { answer = recoveryStep k .answer; keeper = onto RecoveryStep g (recoveryStep k .keeper) }
+  step-frame : (k : Keeper) → act RecoveryStep (onto RecoveryStep g k) ≡ record { answer = act RecoveryStep k .answer; keeper = onto RecoveryStep g (act RecoveryStep k .keeper) }
   unfolding act
   step-frame k = frame RecoveryStep g k
 
@@ -72,12 +72,12 @@ module _ (g : Keeper) where
   steps-frame (suc left) k =
       let e = step-frame k in
       ap (λ o. pick (isCell (o .answer)) (steps left (o .keeper)) (o .keeper)) e
-      ∙ pick-frame (isCell (recoveryStep k .answer)) _ _ _ _ (steps-frame left (recoveryStep k .keeper)) refl
+      ∙ pick-frame (isCell (act RecoveryStep k .answer)) _ _ _ _ (steps-frame left (act RecoveryStep k .keeper)) refl
 
 -- without a state, no step changes anything
 
-step-none : (k : Keeper) → k .state ≡ noState → recoveryStep k ≡ record { answer = refused 1; keeper = k }
-unfolding recoveryStep refusal tests unfit sound inRange noState
+step-none : (k : Keeper) → k .state ≡ noState → act RecoveryStep k ≡ record { answer = refused 1; keeper = k }
+unfolding act performed refusal tests unfit sound inRange noState
 step-none k e = let z : sound (k .state) ≡ false = ap sound e in simp z
 
 steps-none : (left : ℕ) (k : Keeper) → k .state ≡ noState → steps left k ≡ k
@@ -88,8 +88,8 @@ steps-none (suc left) k e = ap (λ o. pick (isCell (o .answer)) (steps left (o .
 -- a start on a head that isn't in rule
 
 pub start-none : (m current first last waiting : List ℕ) → headOk m ≡ false
-    → recoveryStart (stateless m current first last waiting) ≡ record { answer = refused 1; keeper = stateless m current first last waiting }
-unfolding recoveryStart refusal tests unlessStart stateless withState noState
+    → act RecoveryStart (stateless m current first last waiting) ≡ record { answer = refused 1; keeper = stateless m current first last waiting }
+unfolding act performed refusal tests stateless withState noState
 start-none m current first last waiting e = simp e
 
 -- N and C of a head in rule
@@ -147,18 +147,18 @@ module _ (m current waiting : List ℕ) (d : Zeroed m current waiting) where
   module _ (first last : List ℕ) (qf : first ≡ replicate (length current) 0) (ql : last ≡ replicate (length current) 0) where
     -- the steps after the start, as many as the workspaces say
     abbrev last-keeper : Keeper
-    last-keeper = steps (length current + 1) (recoveryStart (stateless m current first last waiting) .keeper)
+    last-keeper = steps (length current + 1) (act RecoveryStart (stateless m current first last waiting) .keeper)
 
     abbrev As-started : Type 0
     As-started =
-        (recoveryStart (stateless m current first last waiting) .answer ≡ started m .answer)
+        (act RecoveryStart (stateless m current first last waiting) .answer ≡ started m .answer)
         × ((last-keeper .state ≡ recovered m .state) × (last-keeper .medium ≡ recovered m .medium))
 
     lengths : headOk m ≡ true → length current ≡ numberAt 4 0 m
     lengths t = zeroed-cells ∙ sym (head-number 0 m true (sym t) refl)
 
     -- with a head in rule it is the start of the definition
-    pub started-same : headOk m ≡ true → recoveryStart (stateless m current first last waiting) ≡ started m
+    pub started-same : headOk m ≡ true → act RecoveryStart (stateless m current first last waiting) ≡ started m
     unfolding started
     started-same t =
         let n : headNumber 0 m ≡ numberAt 4 0 m = sym (head-number 0 m true (sym t) refl) in
@@ -168,7 +168,7 @@ module _ (m current waiting : List ℕ) (d : Zeroed m current waiting) where
         let qw = d .waiting-zero ∙ ap (λ x. replicate {A = ℕ} (32 * x) 0) c in
         let qf′ = qf ∙ ap zeros (lengths t) in
         let ql′ = ql ∙ ap zeros (lengths t) in
-        λ i. recoveryStart (stateless m (qc i) (qf′ i) (ql′ i) (qw i))
+        λ i. act RecoveryStart (stateless m (qc i) (qf′ i) (ql′ i) (qw i))
 
     in-rule : headOk m ≡ true → As-started
     unfolding recovered
@@ -195,7 +195,7 @@ module _ (m current waiting : List ℕ) (d : Zeroed m current waiting) where
         go false e = out-of-rule e
 
     pub recovers : (s o : Started) (current′ first′ last′ m′ : List ℕ)
-        → left (numbered (s .number)) (s .numbers) (s .phase) m current′ first′ last′ waiting ≡ recoveryStart (stateless m current first last waiting)
+        → left (numbered (s .number)) (s .numbers) (s .phase) m current′ first′ last′ waiting ≡ act RecoveryStart (stateless m current first last waiting)
         → o .number ≡ s .number
         → lentTo (o .numbers) (o .phase) m′ current′ [] [] [] ≡ steps (length current + 1) (lentTo (s .numbers) (s .phase) m current′ [] [] [])
         → Recovers m o m′

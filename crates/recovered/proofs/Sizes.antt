@@ -12,7 +12,7 @@ use Rattle.scope.specs.Row.{Entry}
 use Rattle.scope.specs.Keeper.{Keeper, Answer, Outcome, done, refused, headOk, withState, withMedium, droppedTo, madeTo, storeCell, storeHead}
 use Rattle.scope.specs.Recovery.{tableOf, journal, differing}
 use Rattle.scope.specs.Refusals.{RecoveryStart, RecoveryStep, refusal}
-use Rattle.scope.specs.Calls.{recoveryStart, startWith, recoveryStep, stepAt, unless, unlessStart}
+use Rattle.scope.specs.Calls.{stepAt, performed, unchanged, unless, act}
 use Rattle.state.specs.State.{stateOf}
 use Rattle.state.specs.Lent.{stateless}
 use Rattle.recovery.specs.Answers.{numbered}
@@ -30,8 +30,8 @@ pub pick-either : {A : Type 0} (P : A → Type 0) (b : Bool) (x y : A) → P x �
 pick-either P true x y p q = p
 pick-either P false x y p q = q
 
-step-sizes : (k : Keeper) → SameSizes (recoveryStep k .keeper) k
-unfolding recoveryStep unless stepAt storeCell storeHead withMedium withState droppedTo madeTo
+step-sizes : (k : Keeper) → SameSizes (act RecoveryStep k .keeper) k
+unfolding act performed stepAt storeCell storeHead withMedium withState droppedTo madeTo
 step-sizes k = go (refusal RecoveryStep k) (differing (tableOf (k .state .cells) (k .state .slots) (k .medium)) (k .current) 0)
   where
     go : (x : ℕ) (d : Option ℕ) → SameSizes (unless x (stepAt d k) k .keeper) k
@@ -44,20 +44,10 @@ unfolding steps
 steps-sizes zero k = (refl, refl)
 steps-sizes (suc left) k =
     let e = step-sizes k in
-    let h = steps-sizes left (recoveryStep k .keeper) in
-    pick-either (λ (u : Keeper). SameSizes u k) (isCell (recoveryStep k .answer)) _ _ (h .0 ∙ e .0, h .1 ∙ e .1) e
+    let h = steps-sizes left (act RecoveryStep k .keeper) in
+    pick-either (λ (u : Keeper). SameSizes u k) (isCell (act RecoveryStep k .answer)) _ _ (h .0 ∙ e .0, h .1 ∙ e .1) e
 
 -- a start is accepted, with the sizes that it was asked for, or refused
-
-module _ (n c h : ℕ) (k : Keeper) (P : Answer → ℕ → ℕ → Type 0) (accepted : P (done 0) n c) (else : (x a b : ℕ) → P (refused x) a b) where
-  abbrev begun : ℕ → Option (List Entry) → Outcome
-  begun x j = unlessStart x (startWith n c h j k) k
-
-  begun-cases : (x : ℕ) (j : Option (List Entry)) → P (begun x j .answer) (begun x j .keeper .state .cells) (begun x j .keeper .state .slots)
-  unfolding unlessStart startWith
-  begun-cases zero (some es) = accepted
-  begun-cases zero none = else _ _ _
-  begun-cases (suc x) j = else _ _ _
 
 module _ (m : List ℕ) where
   abbrev N : ℕ
@@ -72,8 +62,15 @@ module _ (m : List ℕ) where
 
   pub started-cases : (P : Answer → ℕ → ℕ → Type 0) → P (done 0) N C → ((x a b : ℕ) → P (refused x) a b)
       → P (started m .answer) (started m .keeper .state .cells) (started m .keeper .state .slots)
-  unfolding started recoveryStart stateless
-  started-cases P accepted else = begun-cases N C (numberAt 4 8 m) zeroed P accepted else (refusal RecoveryStart zeroed) (journal N C (numberAt 4 8 m) m)
+  unfolding started act
+  started-cases P accepted else = go (refusal RecoveryStart zeroed)
+    where
+      begun : ℕ → Outcome
+      begun x = unless x (performed RecoveryStart zeroed) (unchanged RecoveryStart zeroed)
+
+      go : (x : ℕ) → P (begun x .answer) (begun x .keeper .state .cells) (begun x .keeper .state .slots)
+      go zero = unfold performed stateless in accepted
+      go (suc x) = else _ _ _
 
   pub started-sizes : (v : ℕ) → started m .answer ≡ done v → (started m .keeper .state .cells ≡ N) × (started m .keeper .state .slots ≡ C)
   started-sizes v =

@@ -6,7 +6,8 @@ use mathlib.Core.List.{List}
 use lib.ListN.{replicate}
 use Rattle.scope.specs.Bytes.{pick, numberAt}
 use Rattle.scope.specs.Keeper.{Keeper, Answer, Outcome, done, refused, cell, head, clean, stored, part, headOk}
-use Rattle.scope.specs.Calls.{recoveryStart, recoveryStep}
+use Rattle.scope.specs.Refusals.{RecoveryStart, RecoveryStep}
+use Rattle.scope.specs.Calls.{act}
 use Rattle.state.specs.State.{stateOf}
 use Rattle.state.specs.Lent.{stateless}
 use Rattle.recovery.specs.Answers.{numbered}
@@ -25,13 +26,13 @@ isCell (part b) = false
 -- recovery steps while a cell is stored, at most so many
 unfoldable pub steps : ℕ → Keeper → Keeper
 steps zero k = k
-steps (suc left) k = pick (isCell (recoveryStep k .answer)) (steps left (recoveryStep k .keeper)) (recoveryStep k .keeper)
+steps (suc left) k = pick (isCell (act RecoveryStep k .answer)) (steps left (act RecoveryStep k .keeper)) (act RecoveryStep k .keeper)
 
 -- recovery start, with workspaces of zeros as the head says
 unfoldable pub started : List ℕ → Outcome
 started m =
     let n = numberAt 4 0 m in
-    recoveryStart (stateless m (replicate n 0) (replicate n 0) (replicate n 0) (replicate (32 * numberAt 4 4 m) 0))
+    act RecoveryStart (stateless m (replicate n 0) (replicate n 0) (replicate n 0) (replicate (32 * numberAt 4 4 m) 0))
 
 -- N cells differ at most, and one step more stores the head or nothing
 unfoldable pub recovered : List ℕ → Keeper

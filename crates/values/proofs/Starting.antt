@@ -1,23 +1,24 @@
 -- A start in workspaces of zeros is the definition's where the head is in rule, and is refused alike where it isn't.
-use Prim.Native.Nat.{ℕ, _≤_, _*_}
+use Prim.Native.Nat.{ℕ, _*_}
 use mathlib.Core.Path.{_≡_, refl, sym, ap, _∙_}
 use mathlib.Core.Bool.{Bool, true, false}
 use mathlib.Core.List.{List}
 use native.Mathlib.Omega.{arith}
-use lib.ListN.{length, replicate, take}
+use lib.ListN.{length, replicate}
 use Rattle.scope.specs.Bytes.{numberAt}
 use Rattle.scope.specs.Keeper.{refused, done, headOk}
-use Rattle.scope.specs.Calls.{recoveryStart}
+use Rattle.scope.specs.Refusals.{RecoveryStart}
+use Rattle.scope.specs.Calls.{act}
 use Rattle.state.specs.Lent.{stateless, left, lentTo}
 use Rattle.recovery.specs.Answers.{numbered}
 use Rattle.recovery.specs.declared.Started.{Started}
-use Rattle.recovered.specs.Recovered.{started, headNumber, Zeroed}
+use Rattle.recovered.specs.Recovered.{started, Zeroed}
 use Rattle.recovered.proofs.Settled.{start-none, started-same}
 use Rattle.values.specs.Values.{valuesOf, Values}
 
 module _ (m current waiting first last : List ℕ) (z : Zeroed m current waiting) (qf : first ≡ replicate (length current) 0) (ql : last ≡ replicate (length current) 0) where
   pub starts : (s : Started) (current′ first′ last′ : List ℕ)
-      → left (numbered (s .number)) (s .numbers) (s .phase) m current′ first′ last′ waiting ≡ recoveryStart (stateless m current first last waiting)
+      → left (numbered (s .number)) (s .numbers) (s .phase) m current′ first′ last′ waiting ≡ act RecoveryStart (stateless m current first last waiting)
       → Values m (s .number) current′
   unfolding left lentTo started valuesOf
   starts s current′ first′ last′ e = go (headOk m) refl

@@ -13,7 +13,7 @@ use Rattle.scope.specs.Row.{Entry}
 use Rattle.scope.specs.Keeper.{Keeper, Answer, done, refused, cell, head, clean, stored, part, headOk}
 use Rattle.scope.specs.Recovery.{journal, tableOf}
 use Rattle.scope.specs.Refusals.{RecoveryStart, refusal}
-use Rattle.scope.specs.Calls.{recoveryStart, startWith, unlessStart}
+use Rattle.scope.specs.Calls.{act, performed}
 use Rattle.scope.specs.Demands.{entriesOf, storedJournal}
 use Rattle.state.specs.Lent.{stateless}
 use Rattle.recovery.specs.Answers.{numbered}
@@ -31,7 +31,7 @@ use Rattle.reasons.specs.declared.Decision.{Decision}
 use Rattle.reasons.specs.Reason.{why}
 use Rattle.reasons.specs.Claim.{Claims}
 use Rattle.reasons.proofs.Accepted.{right}
-use Rattle.why_text.specs.Why.{fiveLines, cellWhy, askedWhy, whyText}
+use Rattle.why_text.specs.Why.{fiveLines, cellWhy, whyText}
 use Rattle.why_text.proofs.Saying.{length-five}
 
 module _ (m : List ℕ) where
@@ -62,7 +62,7 @@ module _ (m : List ℕ) where
             let z : _≡_ {A = ℕ} 0 1 = cc in absurd (omega arith)
 
     pub walk-stored : walk m ≡ storedJournal N C m
-    unfolding started recoveryStart unlessStart startWith stateless
+    unfolding started act performed stateless
     walk-stored = go (refusal RecoveryStart zeroed) (journal N C h m) refl accepted
       where
         go : (r : ℕ) (j : Option (List Entry)) → journal N C h m ≡ j → unlessStart r (startWith N C h j zeroed) zeroed .answer ≡ done v → walk m ≡ entriesOf j
