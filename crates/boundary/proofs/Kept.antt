@@ -7,7 +7,7 @@ use native.Mathlib.Omega.{arith}
 use lib.Dec.{ltb}
 use Rattle.scope.specs.Bytes.{pick}
 use Rattle.scope.specs.Keeper.{Keeper, Answer, Outcome, refused, done, refusalOf}
-use Rattle.scope.specs.Refusals.{Call, Commit, Force}
+use Rattle.scope.specs.Refusals.{Call, Commit, Force, refusal}
 use Rattle.scope.specs.Calls.{performed, unless, act}
 use Rattle.state.specs.State.{stateOf}
 use Rattle.state.specs.Lent.{lentTo}
@@ -31,7 +31,7 @@ unless-keeps (suc x) r k n h e = refl
 
 pub commit-keeps : Keeps Commit
 unfolding act performed
-commit-keeps k n e = unless-keeps _ _ k n (λ z. never _ n z) e
+commit-keeps k n e = unless-keeps (refusal Commit k) (performed Commit k) k n (λ z. never _ n z) e
 
 either-done : (b : Bool) (r q : Outcome) (v w n : ℕ) → r .answer ≡ done v → q .answer ≡ done w → pick b r q .answer ≡ refused n → ⊥
 either-done true r q v w n a b e = never v n (sym a ∙ e)
@@ -39,7 +39,7 @@ either-done false r q v w n a b e = never w n (sym b ∙ e)
 
 pub force-keeps : Keeps Force
 unfolding act performed
-force-keeps k n e = unless-keeps _ _ k n (λ z. either-done (ltb (k .state .f) (k .state .l)) _ _ _ _ n refl refl z) e
+force-keeps k n e = unless-keeps (refusal Force k) (performed Force k) k n (λ z. either-done (ltb (k .state .f) (k .state .l)) _ _ _ _ n refl refl z) e
 
 module _ (xs m c f l w : List ℕ) (value : Answer → ℕ) (which : Call) (i : isState xs ≡ true) (s next : code.State)
     (q : stateOf (s .numbers) (s .phase) ≡ seven xs) where

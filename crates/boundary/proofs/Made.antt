@@ -3,7 +3,7 @@ use Prim.Native.Nat.{ℕ, zero, suc}
 use mathlib.Core.Path.{_≡_, refl, sym, ap, _∙_}
 use mathlib.Core.List.{List}
 use Rattle.scope.specs.Keeper.{State, Keeper, Answer, Outcome, withState, madeTo}
-use Rattle.scope.specs.Refusals.{Call, Write, Commit}
+use Rattle.scope.specs.Refusals.{Call, Write, Commit, refusal}
 use Rattle.scope.specs.Calls.{performed, unless, act}
 use Rattle.state.specs.State.{stateOf}
 use Rattle.state.specs.Lent.{lentTo}
@@ -25,11 +25,11 @@ unless-makes (suc x) o k e = (refl, refl, refl, refl)
 
 pub write-makes : (cell value : ℕ) → Makes (Write cell value)
 unfolding act performed withState madeTo
-write-makes cell value k = unless-makes _ _ k (refl, refl, refl, refl)
+write-makes cell value k = unless-makes (refusal (Write cell value) k) (performed (Write cell value) k) k (refl, refl, refl, refl)
 
 pub commit-makes : Makes Commit
 unfolding act performed withState madeTo
-commit-makes k = unless-makes _ _ k (refl, refl, refl, refl)
+commit-makes k = unless-makes (refusal Commit k) (performed Commit k) k (refl, refl, refl, refl)
 
 module _ (xs m c f l w : List ℕ) (which : Call) (makes : Makes which) (s next : code.State) (held : Holds xs (stateOf (s .numbers) (s .phase))) where
   pub begins : (a : Answer) (m2 c2 f2 l2 w2 : List ℕ) → leaves a next m2 c2 f2 l2 w2 ≡ act which (handed s m c f l w) → Begins xs (next .numbers)
