@@ -1,8 +1,8 @@
 -- What is said of the cell that is asked for, by the way that it ends; and THE FIVE LINES ARE RIGHT for every medium that recovery accepts: the walk
 -- meets the stored journal, the decision over it is right, and the value is the recovered one.
-use Prim.Native.Nat.{ℕ, zero, suc, _*_, _≤_, _<_}
+use Prim.Native.Nat.{ℕ, _*_, _≤_, _<_}
 use mathlib.Core.Path.{_≡_, refl, sym, ap, _∙_}
-use mathlib.Core.Bool.{Bool, true, false}
+use mathlib.Core.Bool.{Bool, true, false, false≢true}
 use mathlib.Core.List.{List}
 use mathlib.Core.Option.{Option, none, some}
 use native.Mathlib.Omega.{arith}
@@ -10,11 +10,12 @@ use borrow.Author.Tests.{lt-ltb, le-ltb}
 use lib.ListN.{length, getD, replicate}
 use Rattle.scope.specs.Bytes.{numberAt}
 use Rattle.scope.specs.Row.{Entry}
-use Rattle.scope.specs.Keeper.{Keeper, Answer, done, refused, cell, head, clean, stored, part, headOk}
-use Rattle.scope.specs.Recovery.{journal, tableOf}
-use Rattle.scope.specs.Refusals.{RecoveryStart, refusal}
-use Rattle.scope.specs.Calls.{act, performed}
-use Rattle.scope.specs.Demands.{entriesOf, storedJournal}
+use Rattle.scope.specs.Keeper.{Keeper, Answer, done, refused, cell, head, clean, stored, part, refusalOf, headOk}
+use Rattle.scope.specs.Recovery.{journal, entriesOf, tableOf}
+use Rattle.scope.specs.Refusals.{RecoveryStart, isNone, tests}
+use Rattle.scope.specs.Demands.{storedJournal}
+use Rattle.scope.proofs.Refusals.{refusal-none}
+use Rattle.scope.proofs.Callers.{refusal-answered}
 use Rattle.state.specs.Lent.{stateless}
 use Rattle.recovery.specs.Answers.{numbered}
 use Rattle.recovery.proofs.Recovering.{number-refused}
@@ -62,13 +63,12 @@ module _ (m : List ℕ) where
             let z : _≡_ {A = ℕ} 0 1 = cc in absurd (omega arith)
 
     pub walk-stored : walk m ≡ storedJournal N C m
-    unfolding started act performed stateless
-    walk-stored = go (refusal RecoveryStart zeroed) (journal N C h m) refl accepted
+    unfolding started stateless tests
+    walk-stored = go (journal N C h m) refl (refusal-none RecoveryStart zeroed (sym (refusal-answered RecoveryStart zeroed) ∙ ap refusalOf accepted) .1 .0)
       where
-        go : (r : ℕ) (j : Option (List Entry)) → journal N C h m ≡ j → unlessStart r (startWith N C h j zeroed) zeroed .answer ≡ done v → walk m ≡ entriesOf j
-        go (suc r) j q e = let z : _≡_ {A = ℕ} 0 1 = cc in absurd (omega arith)
-        go zero none q e = let z : _≡_ {A = ℕ} 0 1 = cc in absurd (omega arith)
-        go zero (some es) q e = walk-journal m in-rule es q
+        go : (j : Option (List Entry)) → journal N C h m ≡ j → isNone j ≡ false → walk m ≡ entriesOf j
+        go none q e = absurd (false≢true (sym e))
+        go (some es) q e = walk-journal m in-rule es q
 
     -- THE FIVE LINES, and what they claim
     pub five-right : (c : ℕ) → c < N → (let v = getD (valuesOf m) c 0 in let d = why c h (storedJournal N C m) in
