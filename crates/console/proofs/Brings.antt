@@ -9,12 +9,11 @@ use native.Mathlib.Omega.{arith}
 use borrow.Author.Tests.{eqb-true, leb-false, lt-ltb}
 use lib.Dec.{ltb}
 use lib.ListN.{length, take, drop, getD}
-use Rattle.scope.specs.Bytes.{pick, bytesOf, numberAt, put}
-use Rattle.scope.specs.Row.{Entry}
+use Rattle.scope.specs.Bytes.{pick, bytesOf, put}
 use Rattle.scope.specs.Keeper.{Keeper, Outcome, done, refused, head, clean, stored, idle, valueOf, mediumLength, rowAt, cellAt, waitingRow, headBytes, withState, withMedium, madeTo, storedNext, droppedTo, storeCell, storeHead}
-use Rattle.scope.specs.Recovery.{journal, tableOf, differing}
+use Rattle.scope.specs.Recovery.{tableOf, differing}
 use Rattle.scope.specs.Refusals.{Call, RecoveryStart, RecoveryStep, Begin, Commit, Abort, Force, Read, WriteBack, Cut, Write, isMedium, isRows, lent, unfit, tests, refusal}
-use Rattle.scope.specs.Calls.{unless, stepAt, cleaned, act, performed}
+use Rattle.scope.specs.Calls.{unless, stepAt, cleaned, act, performed, unchanged}
 use Rattle.scope.proofs.Bytes.{put-same, length-row, length-bytesOf}
 use Rattle.scope.proofs.Refusals.{refusal-none}
 use Rattle.scope.proofs.Represents.{and-true}
@@ -56,19 +55,12 @@ unfolding put
 brings-read c k = ap (λ (o : Outcome). o .keeper .medium) (frame (Read c) k k)
 
 pub brings-start : (k : Keeper) → Brings nowhere k (act RecoveryStart k)
-unfolding put act performed
+unfolding put act
 brings-start k = go (refusal RecoveryStart k)
   where
-    J : Option (List Entry)
-    J = journal (numberAt 4 0 (k .medium)) (numberAt 4 4 (k .medium)) (numberAt 4 8 (k .medium)) (k .medium)
-
-    all-read : (n c h : ℕ) (o : Option (List Entry)) → startWith n c h o k .keeper .medium ≡ k .medium
-    all-read n c h (some es) = unfold startWith in refl
-    all-read n c h none = unfold startWith withState in refl
-
-    go : (i : ℕ) → unlessStart i (startWith (numberAt 4 0 (k .medium)) (numberAt 4 4 (k .medium)) (numberAt 4 8 (k .medium)) J k) k .keeper .medium ≡ k .medium
-    go zero = unfold unlessStart in all-read _ _ _ J
-    go (suc i) = unfold unlessStart withState in refl
+    go : (i : ℕ) → unless i (performed RecoveryStart k) (unchanged RecoveryStart k) .keeper .medium ≡ k .medium
+    go zero = unfold performed in refl
+    go (suc i) = unfold withState in refl
 
 -- calls that store: refused, or with the lengths that the state says
 module _ (k : Keeper) where
