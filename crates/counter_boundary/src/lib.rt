@@ -53,7 +53,12 @@ fn hand_value(hand: Hand) -> u64
 }
 
 #[no_mangle]
-pub extern "C" fn keeper_cell_to_order(medium: &[u8], lowest: u32, count: u32, value: &mut u64) -> u32
+pub extern "C" fn keeper_cell_to_order(
+    medium: &[u8],
+    lowest: u32,
+    count: u32,
+    value: &mut u64,
+) -> u32
     ensures number { λ r. ⌜ r ≡ orderNumber (cellToOrder (now (medium .entry)) lowest count) ⌝ }
     ensures value { λ _. ⌜ now (value .exit) ≡ orderValue (cellToOrder (now (medium .entry)) lowest count) ⌝ }
 {
