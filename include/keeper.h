@@ -31,7 +31,7 @@
  *     3 no transaction is open                                             9 the journal can't be cut there
  *     4 no such cell                                                      10 recovering; recovery step: not recovering
  *     5 no room in the journal                                            11 no such entry
- *     6 the entry numbers are used up
+ *     6 the entry numbers are used up                                     12 the counter: every cell of the span is empty
  *
  * Rules of use
  *   1. After power loss, and after format: recovery start, then recovery step until the phase is idle.
@@ -143,6 +143,28 @@ uint32_t keeper_read_row(const uint8_t *row, size_t row_len, uint32_t cells, uin
  * none, or a commit or abort whose cell, old or new is not 0. */
 uint32_t keeper_write_row(uint8_t *row, size_t row_len, uint32_t number, uint32_t kind, uint32_t cell,
                           uint64_t old_value, uint64_t new_value);
+
+/* The counter: two questions over a medium whose recovery has ended, before any write-back. They stand in an archive of their own,
+ * libcounter_boundary.a, which is linked beside libboundary.a (scripts/native-archive counter_boundary OUT). Both read the table as it
+ * stands in `medium`, take no state and store nothing. A control unit owns the `count` cells from `lowest` on.
+ * Both refuse 1: the head or the length out of rule; 4: lowest plus count above N, not wrapped; 12: every cell of the span empty,
+ * a span of 0 cells included. */
+
+/* Cell to order: *value is the cell, not empty, of greatest release, major then minor as numbers, the lowest among equals.
+ * Costs the span's cells, once. */
+uint32_t keeper_cell_to_order(const uint8_t *medium, size_t medium_len, uint32_t lowest, uint32_t count, uint64_t *value);
+
+/* The values of a part in hand. */
+#define KEEPER_HAND_THAT_ONE ((uint64_t)1)
+#define KEEPER_HAND_EQUAL ((uint64_t)2)
+#define KEEPER_HAND_OLDER ((uint64_t)3)
+#define KEEPER_HAND_NOT_LISTED ((uint64_t)4)
+
+/* Part in hand: *value is KEEPER_HAND_THAT_ONE, the part of the cell to order; KEEPER_HAND_EQUAL, another part of the same release;
+ * KEEPER_HAND_OLDER; or KEEPER_HAND_NOT_LISTED. A part in several cells of the span counts by its greatest release, empty cells list
+ * none. Costs the span's cells, twice. */
+uint32_t keeper_part_in_hand(const uint8_t *medium, size_t medium_len, uint32_t lowest, uint32_t count, uint64_t part,
+                             uint64_t *value);
 
 #ifdef __cplusplus
 }

@@ -8,12 +8,14 @@
 //! - `listing`: the listing's text.
 //! - `counter`, `why`, `month`: the tools over recovered media, for tickets 1, 3 and 13; `tool`: what they share.
 //! - `desk`, `event`, `draw`, `rng`, `directed`, `ledger`, `play`, `hits`: the comparison of two keepers.
+//! - `counting`: the comparison of two counters.
 //! - `corpus`: media of random histories, for comparing the tools.
 //! - `bench`, `plot`: the measurements and their drawing.
 
 pub mod bench;
 pub mod corpus;
 pub mod counter;
+pub mod counting;
 pub mod desk;
 pub mod directed;
 pub mod draw;

@@ -1,11 +1,12 @@
-//! compare [--seed S] [--calls N] [--fault K]: leads the proved library and the second program through the same histories.
+//! compare [--seed S] [--calls N] [--questions Q] [--fault K]: leads the proved library and the second program through the same histories.
 //!
 //! After every call both answers, both states and every byte of every buffer must be equal. The directed histories come
-//! first, then random ones until N calls were compared. A difference ends the run with a shortened history; so does, at the
-//! end, an allowed answer that was never reached. With --fault K (1 to 6) the second program goes wrong in that way, and the
+//! first, then random ones until N calls were compared; last, Q questions at the counter, on drawn tables and spans. A difference ends the run with a shortened history; so does, at the
+//! end, an allowed answer that was never reached. With --fault K (1 to 12) the second program goes wrong in that way, and the
 //! run must find it: it then ends with 0 where a difference was found. Built without the feature `library` the second program
 //! stands in for the library.
 
+use second::counting::{self, Question, Told, Wrong};
 use second::directed;
 use second::draw::Draw;
 use second::event::Event;
@@ -27,24 +28,39 @@ fn library() -> (&'static str, &'static dyn Keeper) {
     ("the second program (built without the library)", keeper::second(Fault::None))
 }
 
+#[cfg(feature = "counter")]
+fn library_counter(question: &Question) -> [Told; 2] {
+    counting::library(question)
+}
+
+#[cfg(not(feature = "counter"))]
+fn library_counter(question: &Question) -> [Told; 2] {
+    counting::second(question)
+}
+
 struct Options {
     seed: u64,
     calls: u64,
+    questions: u64,
     fault: Fault,
+    wrong: Option<Wrong>,
 }
 
-const USAGE: &str = "compare [--seed S] [--calls N] [--fault K]
+const USAGE: &str = "compare [--seed S] [--calls N] [--questions Q] [--fault K]
   K: 1 replay by label, 2 committed transactions only, 3 undo in rising order, 4 write-back by `first`,
-     5 head before the last cell, 6 cut at an update";
+     5 head before the last cell, 6 cut at an update; at the counter 7 release as text, 8 minor before major,
+     9 the last among equals, 10 a sum that wraps, 11 older for equal, 12 a part by its first cell";
 
 fn options() -> Result<Options, String> {
-    let mut options = Options { seed: 1, calls: 1_000_000, fault: Fault::None };
+    let mut options = Options { seed: 1, calls: 1_000_000, questions: 1_000_000, fault: Fault::None, wrong: None };
     let mut words = std::env::args().skip(1);
     while let Some(word) = words.next() {
         let number = words.next().and_then(|word| word.parse::<u64>().ok()).ok_or(USAGE)?;
         match word.as_str() {
             "--seed" => options.seed = number,
             "--calls" => options.calls = number,
+            "--questions" => options.questions = number,
+            "--fault" if number > 6 => options.wrong = Some(*counting::WRONG.get(number as usize - 7).ok_or(USAGE)?),
             "--fault" => options.fault = fault(number).ok_or(USAGE)?,
             _ => return Err(USAGE.to_string()),
         }
@@ -152,6 +168,26 @@ fn complete(run: &Run) -> bool {
     missed.is_empty()
 }
 
+/// The counter's questions; whether the run went as it should.
+fn counter(options: &Options) -> bool {
+    let (seed, questions, wrong) = (options.seed, options.questions, options.wrong);
+    let right =
+        |question: &Question| wrong.map_or_else(|| counting::second(question), |wrong| counting::goes(wrong, question));
+    match counting::compare(seed, questions, library_counter, right) {
+        Err(difference) => {
+            println!("\nat the counter, {wrong:?}, a difference: {difference}");
+            wrong.is_some()
+        }
+        Ok(met) => {
+            println!("\n{questions} questions at the counter, {wrong:?}: no difference");
+            met.iter().for_each(|(name, times)| println!("  {name}: {times}"));
+            let missed: Vec<_> = counting::CASES.iter().filter(|case| !met.contains_key(**case)).collect();
+            missed.iter().for_each(|case| println!("never reached: {case}"));
+            missed.is_empty() && wrong.is_none()
+        }
+    }
+}
+
 fn main() -> ExitCode {
     let options = match options() {
         Ok(options) => options,
@@ -161,6 +197,10 @@ fn main() -> ExitCode {
         }
     };
     let (name, left) = library();
+    let counted = counter(&options);
+    if options.wrong.is_some() {
+        return if counted { ExitCode::SUCCESS } else { ExitCode::FAILURE };
+    }
     let fault = options.fault;
     println!("{name} against the second program, fault {fault:?}, seed {}", options.seed);
     let keepers = [left, keeper::second(fault)];
@@ -179,7 +219,7 @@ fn main() -> ExitCode {
             complete(&run) && fault == Fault::None
         }
     };
-    if good {
+    if good && counted {
         ExitCode::SUCCESS
     } else {
         ExitCode::FAILURE
