@@ -2,6 +2,10 @@
 pub mod say;
 pub mod show;
 
+ghost use mathlib.Core.Path.{_≡_};
+ghost use mathlib.Core.Bool.{false};
+ghost use Rattle.words.specs.Words.{wordNumber, wordRelease};
+ghost use Rattle.orders.specs.Orders.{told, wrongOrder, numberOrder, writeOrder};
 use console::Asked;
 use words::Parsed;
 use words::Span;
@@ -128,7 +132,9 @@ pub struct Read {
     bad: bool,
 }
 
-fn read_number(s: &[u8], w: Span) -> Read {
+fn read_number(s: &[u8], w: Span) -> Read
+    ensures { λ r. ⌜ told r ≡ wordNumber (now (s .entry)) (w .from) (w .to) ⌝ }
+{
     let x = words::number(s, w);
     let Parsed::Is(n) = x else {
         return Read { n: 0, bad: true };
@@ -139,7 +145,9 @@ fn read_number(s: &[u8], w: Span) -> Read {
     }
 }
 
-fn read_release(s: &[u8], w: Span) -> Read {
+fn read_release(s: &[u8], w: Span) -> Read
+    ensures { λ r. ⌜ told r ≡ wordRelease (now (s .entry)) (w .from) (w .to) ⌝ }
+{
     let x = words::release(s, w);
     let Parsed::Is(n) = x else {
         return Read { n: 0, bad: true };
@@ -150,7 +158,9 @@ fn read_release(s: &[u8], w: Span) -> Read {
     }
 }
 
-fn plain(kind: u32, wrong: bool, name: Span) -> Order {
+fn plain(kind: u32, wrong: bool, name: Span) -> Order
+    ensures { λ r. ⌜ r ≡ record { kind = kind; wrong = wrong; a = 0; b = 0; erase = false; value = 0; name = name } ⌝ }
+{
     Order {
         kind,
         wrong,
@@ -162,28 +172,23 @@ fn plain(kind: u32, wrong: bool, name: Span) -> Order {
     }
 }
 
-// An order with one number, or a write, once their count is right.
-fn numbered(s: &[u8], kind: u32, a: Span, b: Span, c: Span) -> Order {
+// An order with one number.
+fn numbered(s: &[u8], kind: u32, a: Span) -> Order
+    ensures { λ r. ⌜ r ≡ numberOrder kind (wordNumber (now (s .entry)) (a .from) (a .to)) a ⌝ }
+{
     let x = read_number(s, a);
     if x.bad {
         return plain(kind, true, a);
     }
-    if arity(kind) == 1 {
-        return Order {
-            kind,
-            wrong: false,
-            a: x.n,
-            b: 0,
-            erase: false,
-            value: 0,
-            name: a,
-        };
+    Order {
+        kind,
+        wrong: false,
+        a: x.n,
+        b: 0,
+        erase: false,
+        value: 0,
+        name: a,
     }
-    let y = read_number(s, b);
-    if y.bad {
-        return plain(kind, true, a);
-    }
-    written(s, x.n, y.n, c)
 }
 
 // A format: cells, rows, and the word `erase` or nothing.
@@ -215,19 +220,29 @@ fn formatted(s: &[u8], count: u32, a: Span, b: Span, c: Span) -> Order {
 }
 
 // A write: its cell, part and release.
-fn written(s: &[u8], cell: u32, part: u32, c: Span) -> Order {
+fn written(s: &[u8], a: Span, b: Span, c: Span) -> Order
+    ensures { λ r. ⌜ r ≡ writeOrder (wordNumber (now (s .entry)) (a .from) (a .to)) (wordNumber (now (s .entry)) (b .from) (b .to)) (wordRelease (now (s .entry)) (c .from) (c .to)) a ⌝ }
+{
+    let x = read_number(s, a);
+    if x.bad {
+        return plain(console::WRITE, true, a);
+    }
+    let y = read_number(s, b);
+    if y.bad {
+        return plain(console::WRITE, true, a);
+    }
     let z = read_release(s, c);
     if z.bad {
-        return plain(console::WRITE, true, c);
+        return plain(console::WRITE, true, a);
     }
     Order {
         kind: console::WRITE,
         wrong: false,
-        a: cell,
+        a: x.n,
         b: 0,
         erase: false,
-        value: part as u64 + 4294967296 * (z.n as u64),
-        name: c,
+        value: y.n as u64 + 4294967296 * (z.n as u64),
+        name: a,
     }
 }
 
@@ -255,7 +270,10 @@ fn with_words(s: &[u8], kind: u32, count: u32, a: Span, b: Span, c: Span) -> Ord
     if kind == NEW {
         return plain(kind, false, a);
     }
-    numbered(s, kind, a, b, c)
+    if kind == console::WRITE {
+        return written(s, a, b, c);
+    }
+    numbered(s, kind, a)
 }
 
 // The order of a line that is not empty.
@@ -303,7 +321,9 @@ pub fn next(line: &mut [u8]) -> Order {
 }
 
 // The call that an order asks for.
-pub fn asked(order: Order) -> Asked {
+pub fn asked(order: Order) -> Asked
+    ensures { λ r. ⌜ r ≡ record { call = order .kind; cell = order .a; value = order .value; entry = order .a } ⌝ }
+{
     Asked {
         call: order.kind,
         cell: order.a,

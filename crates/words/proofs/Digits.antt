@@ -6,13 +6,16 @@ use mathlib.Core.List.{List}
 use mathlib.Core.Option.{Option, none, some}
 use native.Mathlib.Numerals.{add-one}
 use native.Mathlib.Omega.{arith}
-use borrow.Author.Tests.{le-leb, lt-leb, lt-ltb, le-ltb, eq-eqb, ne-eqb}
+use borrow.Author.Tests.{leb-true, le-leb, lt-leb, lt-ltb, le-ltb, eq-eqb, ne-eqb}
 use lib.Dec.{leb, ltb, eqb}
 use lib.ListN.{getD}
 use Rattle.scope.specs.Bytes.{pick}
 use Rattle.words.specs.declared.Parsed.{Parsed}
 use Rattle.words.specs.declared.Parsed.the-variants.{Is, Not}
 use Rattle.words.specs.Words.{parsed, isDigit, more, digits, wordNumber, pointIn, joinedRelease, wordRelease}
+
+never : (m : ℕ) → none ≡ some m → ⊥
+never m e = let z : _≡_ {A = ℕ} 0 1 = cc in omega arith
 
 -- how many bytes are left, as the definitions recur on it
 left-of : (i to : ℕ) → i < to → to - i ≡ suc (to - (i + 1))
@@ -55,6 +58,28 @@ pub number-is : (s : List ℕ) (from to : ℕ) (x : Option ℕ) → from < to �
 unfolding wordNumber
 number-is s from to x h e = rw (lt-ltb from to h) (sym e)
 
+-- a number is below 2^32
+pub digits-small : (k : ℕ) (s : List ℕ) (i n m : ℕ) → n ≤ 4294967295 → digits k s i n ≡ some m → m ≤ 4294967295
+unfolding digits
+digits-small zero s i n m h e = let z : n ≡ m = cc in omega arith
+digits-small (suc k) s i n m h e =
+    go (isDigit (getD s i 0)) (leb (more n (getD s i 0)) 4294967295) refl (λ q. digits-small k s (i + 1) (more n (getD s i 0)) m q) e
+  where
+    go : (d t : Bool) → leb (more n (getD s i 0)) 4294967295 ≡ t
+        → (more n (getD s i 0) ≤ 4294967295 → digits k s (i + 1) (more n (getD s i 0)) ≡ some m → m ≤ 4294967295)
+        → pick (d && t) (digits k s (i + 1) (more n (getD s i 0))) none ≡ some m → m ≤ 4294967295
+    go true true q f e = f (leb-true _ _ q) e
+    go true false q f e = absurd (never m e)
+    go false t q f e = absurd (never m e)
+
+pub number-small : (s : List ℕ) (from to m : ℕ) → wordNumber s from to ≡ some m → m ≤ 4294967295
+unfolding wordNumber
+number-small s from to m e = go (ltb from to) e
+  where
+    go : (t : Bool) → pick t (digits (to - from) s from 0) none ≡ some m → m ≤ 4294967295
+    go true e = digits-small (to - from) s from 0 m (omega arith) e
+    go false e = absurd (never m e)
+
 -- points
 module _ (s : List ℕ) (i to : ℕ) where
   pub point-here : i < to → getD s i 0 ≡ 46 → pointIn (to - i) s i ≡ i
@@ -91,3 +116,24 @@ module _ (s : List ℕ) (from to p : ℕ) (e : p ≡ pointIn (to - from) s from)
   pub release-is : (r x y : Option ℕ) → p < to → x ≡ wordNumber s from p → y ≡ wordNumber s (p + 1) to → r ≡ joinedRelease x y → r ≡ wordRelease s from to
   unfolding wordRelease
   release-is r x y h q t j = rw (← e, lt-ltb p to h, ← q, ← t) j
+
+-- and so is a release
+pub release-small : (s : List ℕ) (from to m : ℕ) → wordRelease s from to ≡ some m → m ≤ 4294967295
+unfolding wordRelease
+release-small s from to m e = go (ltb (pointIn (to - from) s from) to) e
+  where
+    within : (a b : ℕ) (g h : Bool) → leb a 65535 ≡ g → leb b 65535 ≡ h → pick (g && h) (some (a + 65536 * b)) none ≡ some m → m ≤ 4294967295
+    within a b true true p q e =
+        let z : a + 65536 * b ≡ m = cc in omega (arith, leb-true a 65535 p, leb-true b 65535 q)
+    within a b true false p q e = absurd (never m e)
+    within a b false h p q e = absurd (never m e)
+
+    joined : (x y : Option ℕ) → joinedRelease x y ≡ some m → m ≤ 4294967295
+    joined none y e = absurd (never m e)
+    joined (some a) none e = absurd (never m e)
+    joined (some a) (some b) e = within a b (leb a 65535) (leb b 65535) refl refl e
+
+    go : (t : Bool) → pick t (joinedRelease (wordNumber s from (pointIn (to - from) s from)) (wordNumber s (pointIn (to - from) s from + 1) to)) none ≡ some m
+        → m ≤ 4294967295
+    go true e = joined (wordNumber s from (pointIn (to - from) s from)) (wordNumber s (pointIn (to - from) s from + 1) to) e
+    go false e = absurd (never m e)
