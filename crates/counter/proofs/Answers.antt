@@ -1,12 +1,11 @@
 -- THE ANSWERS SAY WHAT THEY SAY, and only then: for any table and span. From the best cell of the span and the best that lists the part, of which there
 -- is one at most.
-use Prim.Native.Nat.{ℕ, _+_, _*_, _≤_, _<_}
-use mathlib.Core.Path.{_≡_, refl, sym, ap, subst, _∙_}
+use Prim.Native.Nat.{ℕ, _+_, _≤_, _<_}
+use mathlib.Core.Path.{_≡_, refl, sym, ap, _∙_}
 use mathlib.Core.Bool.{Bool, true, false, false≢true, not, _&&_}
-use mathlib.Core.Logic.{_⊎_, inl, inr, _≢_}
+use mathlib.Core.Logic.{inl, inr, _≢_}
 use mathlib.Core.List.{List}
 use native.Mathlib.Decide.{decLe}
-use native.Mathlib.Nat.{mod-lt}
 use native.Mathlib.Omega.{arith}
 use borrow.Author.Tests.{ltb-true, ltb-false, eqb-true, eqb-false, lt-ltb, le-ltb, eq-eqb, ne-eqb}
 use lib.Dec.{ltb, eqb}
@@ -16,7 +15,6 @@ use Rattle.counter.specs.declared.Order.{Order}
 use Rattle.counter.specs.declared.Order.the-variants as order
 use Rattle.counter.specs.declared.Hand.{Hand}
 use Rattle.counter.specs.declared.Hand.the-variants as hand
-use Rattle.counter.specs.declared.Sought.{Sought}
 use Rattle.counter.specs.declared.Sought.the-variants as sought
 use Rattle.counter.specs.declared.Best.{Best}
 use Rattle.counter.specs.declared.Best.the-variants as best

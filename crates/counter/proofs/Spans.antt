@@ -6,7 +6,7 @@ use mathlib.Core.Bool.{Bool, true, false}
 use mathlib.Core.List.{List}
 use native.Mathlib.Omega.{arith}
 use borrow.Author.Tests.{lt-ltb, le-ltb, eq-eqb, ne-eqb, le-leb, lt-leb, leb-true}
-use lib.Dec.{ltb, eqb, leb}
+use lib.Dec.{eqb, leb}
 use lib.ListN.{length, getD, drop, length-drop}
 use Rattle.scope.specs.Bytes.{pick, numberAt}
 use Rattle.scope.specs.Keeper.{headOk, refusalOf, partOf, cellsOf}
@@ -17,9 +17,7 @@ use Rattle.medium.specs.Lent.{onMedium}
 use Rattle.medium.proofs.Heads.{view-refused}
 use Rattle.medium.proofs.Cells.{cell-value}
 use Rattle.recovery.proofs.Recovering.{Head, head-fits}
-use Rattle.counter.specs.declared.Order.{Order}
 use Rattle.counter.specs.declared.Order.the-variants as order
-use Rattle.counter.specs.declared.Hand.{Hand}
 use Rattle.counter.specs.declared.Hand.the-variants as hand
 use Rattle.counter.specs.declared.Sought.{Sought}
 use Rattle.counter.specs.declared.Sought.the-variants as sought

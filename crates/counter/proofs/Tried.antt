@@ -7,9 +7,7 @@ use lib.ListN.{replicate}
 use Rattle.scope.specs.Bytes.{bytesOf, numberOf, numberAt}
 use Rattle.scope.specs.Keeper.{headOk, inRange, mediumLength, headBytes, cellsOf}
 use Rattle.scope.specs.Recovery.{tableOf}
-use Rattle.counter.specs.declared.Order.{Order}
 use Rattle.counter.specs.declared.Order.the-variants as order
-use Rattle.counter.specs.declared.Hand.{Hand}
 use Rattle.counter.specs.declared.Hand.the-variants as hand
 use Rattle.counter.specs.Counter.{partNumber, major, minor, release, counts, better, withCell, bestFrom, bestIn, tableIn, spanRefusal, orderIn, cellToOrder, against, handIn, partInHand}
 

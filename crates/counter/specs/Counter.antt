@@ -1,6 +1,6 @@
 -- THE COUNTER SCREEN (ticket 1): for a control unit, a span of cells, the cell to order; and for a part number in hand, what it is.
 use Prim.Native.Nat.{ℕ, zero, suc, _+_, _*_, _/_, _%_}
-use mathlib.Core.Bool.{Bool, true, false, not, _&&_}
+use mathlib.Core.Bool.{Bool, not, _&&_}
 use mathlib.Core.List.{List}
 use lib.Dec.{ltb, leb, eqb}
 use lib.ListN.{getD}

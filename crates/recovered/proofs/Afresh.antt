@@ -2,7 +2,7 @@
 -- steps are the definition's: a step after the end is refused, so none before the last one ended.
 use Prim.Native.Nat.{ℕ, zero, suc, _+_, _*_, _≤_, _<_}
 use mathlib.Core.Path.{_≡_, refl, sym, ap, subst, _∙_}
-use mathlib.Core.Bool.{Bool, true, false, false≢true, not}
+use mathlib.Core.Bool.{Bool, true, false, false≢true}
 use mathlib.Core.List.{List, [], _∷_}
 use mathlib.Core.Option.{Option, none, some}
 use native.Mathlib.Omega.{arith}
@@ -10,13 +10,13 @@ use lib.Dec.{ltb}
 use lib.ListN.{replicate, length-replicate}
 use Rattle.scope.specs.Bytes.{pick, numberAt}
 use Rattle.scope.specs.Row.{Entry}
-use Rattle.scope.specs.Keeper.{idle, Keeper, Answer, done, refused, cell, head, clean, stored, part, Outcome, isRecovering, headOk, noState, withState, withMedium, droppedTo, madeTo, storeCell, storeHead}
+use Rattle.scope.specs.Keeper.{idle, Keeper, Answer, done, refused, cell, head, clean, stored, part, Outcome, isRecovering, headOk, withState, droppedTo, madeTo}
 use Rattle.scope.specs.Recovery.{tableOf, differing}
 use Rattle.scope.specs.Refusals.{RecoveryStart, RecoveryStep, refusal, tests, unfit}
-use Rattle.scope.specs.Calls.{recoveryStart, recoveryStep, stepAt, unless, act}
+use Rattle.scope.specs.Calls.{recoveryStep, stepAt, unless, act}
 use Rattle.scope.specs.History.{Event, call, powerLoss, happen, after, Allowed, History, now, transactions, wanted}
 use Rattle.scope.specs.Demands.{Sized, ended, names, named, storedJournal}
-use Rattle.scope.proofs.Medium.{Stored, n≡, c≡, head-ok}
+use Rattle.scope.proofs.Medium.{n≡, c≡, head-ok}
 use Rattle.scope.proofs.Histories.{Rest, resting, always}
 use Rattle.scope.proofs.Demand3.{safe, ends-soon, ends-afresh, start-never-refused}
 use Rattle.state.specs.Lent.{stateless}
