@@ -1,5 +1,5 @@
--- After any history the counter says what is to be said of the table worked out afresh: its medium's head is in rule, its recovery is accepted, and the answers are then
--- those for that table.
+-- After any history the counter says what is to be said of the table worked out afresh: its medium's head is in rule, its recovery is
+-- accepted, and the answers are then those for that table.
 use Prim.Native.Nat.{ℕ, _+_}
 use mathlib.Core.Path.{_≡_, refl, ap, _∙_}
 use mathlib.Core.Bool.{Bool, true, false}

@@ -1,4 +1,5 @@
--- What is asked and what is said: a question line by line; the room that each answer takes; and that a number past 32 bits is refused as the greatest of 32 bits is.
+-- What is asked and what is said: a question line by line; the room that each answer takes; and that a number past 32 bits is refused as
+-- the greatest of 32 bits is.
 use Prim.Native.Nat.{ℕ, zero, suc, _+_, _≤_, _<_}
 use mathlib.Core.Path.{_≡_, refl, sym, ap, _∙_}
 use mathlib.Core.Bool.{Bool, true, false}
