@@ -1,5 +1,5 @@
--- The answers on a medium: what 1 and 4 say beside what the answers say of a table; and, with demand 3, that after recovery of a history's medium they are those
--- for the table worked out afresh.
+-- The answers on a medium: what 1 and 4 say beside what the answers say of a table; and, with demand 3, that after recovery of a history's
+-- medium they are those for the table worked out afresh.
 use Prim.Native.Nat.{ℕ, suc, _+_}
 use mathlib.Core.Path.{_≡_, refl, sym, ap, subst, _∙_}
 use mathlib.Core.Bool.{Bool, true, false}

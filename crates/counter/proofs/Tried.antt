@@ -44,7 +44,8 @@ pub mixed-hands : handIn mixed 0 6 5 ∷ handIn mixed 0 4 5 ∷ handIn mixed 0 6
 unfolding handIn against bestIn bestFrom withCell better counts partNumber release major minor
 mixed-hands = refl
 
--- a medium with the garage's two cells, and both sides of each refusal: an empty span at N is 12, one cell more is 4, and so is a sum past 32 bits; 1 is said before 4
+-- a medium with the garage's two cells, and both sides of each refusal: an empty span at N is 12, one cell more is 4, and so is a sum past
+-- 32 bits; 1 is said before 4
 abbrev medium : List ℕ
 medium = headBytes 2 4 0 ++ replicate 128 0 ++ bytesOf 8 (value 40017 1 9) ++ bytesOf 8 (value 40052 1 10)
 

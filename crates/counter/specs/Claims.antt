@@ -64,8 +64,8 @@ HandSays t lowest count p hand.NotListed =
     (c : ℕ) × ToOrder t lowest count c × ((j : ℕ) → Lists t lowest count p j → ⊥)
 HandSays t lowest count p (hand.Refused n) = (n ≡ 12) × AllEmpty t lowest count
 
--- on a medium: 1 says that its head is out of rule; 4 that it is in rule, and lowest plus count above N; any other answer says that the span lies in the table, and what
--- it says of it
+-- on a medium: 1 says that its head is out of rule; 4 that it is in rule, and lowest plus count above N; any other answer says that the
+-- span lies in the table, and what it says of it
 abbrev pub OnMedium : {A : Type 0} → List ℕ → ℕ → ℕ → (ℕ → A) → (A → Type 0) → A → Type 0
 OnMedium m lowest count refused Says a =
     ((headOk m ≡ false) × (a ≡ refused 1))
@@ -79,8 +79,8 @@ orderFor n t lowest count = orderUnless (pick (leb (lowest + count) n) 0 4) (ord
 unfoldable pub handFor : ℕ → List ℕ → ℕ → ℕ → ℕ → Hand
 handFor n t lowest count p = handUnless (pick (leb (lowest + count) n) 0 4) (handIn t lowest count p)
 
--- AFTER RECOVERY of any history's medium both answers are the ones for the table "worked out afresh from the empty table by the writes of exactly those transactions
--- whose commit entry had been stored on the medium, in the order stored"
+-- AFTER RECOVERY of any history's medium both answers are the ones for the table "worked out afresh from the empty table by the writes of
+-- exactly those transactions whose commit entry had been stored on the medium, in the order stored"
 abbrev pub AsAfresh : ℕ → ℕ → Keeper → List Event → List ℕ → Type 0
 AsAfresh n c k es m =
     (lowest count : ℕ)

@@ -31,13 +31,13 @@ pub enum Hand {
 }
 
 // Which cells count: all that are not empty, or those that list a part.
-pub enum Sought {
+enum Sought {
     Any,
     Part(u64),
 }
 
 // The best cell so far, with its value.
-pub enum Best {
+enum Best {
     Cell(u32, u64),
     Nothing,
 }

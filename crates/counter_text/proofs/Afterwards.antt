@@ -1,20 +1,20 @@
--- After any history the counter says what is to be said of the table worked out afresh: its medium's head is in rule, its recovery is accepted, and the answers are then
--- those for that table.
-use Prim.Native.Nat.{ℕ, zero, suc, _+_}
-use mathlib.Core.Path.{_≡_, refl, sym, ap, _∙_}
+-- After any history the counter says what is to be said of the table worked out afresh: its medium's head is in rule, its recovery is
+-- accepted, and the answers are then those for that table.
+use Prim.Native.Nat.{ℕ, _+_}
+use mathlib.Core.Path.{_≡_, refl, ap, _∙_}
 use mathlib.Core.Bool.{Bool, true, false}
 use mathlib.Core.List.{List}
 use lib.Dec.{leb}
-use Rattle.scope.specs.Bytes.{pick, numberAt}
-use Rattle.scope.specs.Keeper.{Keeper, headOk, refusalOf}
+use Rattle.scope.specs.Bytes.{pick}
+use Rattle.scope.specs.Keeper.{Keeper, refusalOf}
 use Rattle.scope.specs.History.{Event, History, reached, wanted}
-use Rattle.recovered.specs.Recovered.{started, recovered}
+use Rattle.recovered.specs.Recovered.{recovered}
 use Rattle.recovered.proofs.Afresh.{history-head, recovered-accepted}
 use Rattle.text.specs.Text.{line, refusedKey}
 use Rattle.lines.specs.declared.Decimal.{Decimal}
 use Rattle.lines.specs.declared.Decimal.the-variants as decimal
-use Rattle.counter.specs.Counter.{spanRefusal, cellToOrder, partInHand, orderUnless, orderIn}
-use Rattle.counter.specs.Claims.{orderFor, handFor}
+use Rattle.counter.specs.Counter.{spanRefusal, orderUnless, orderIn}
+use Rattle.counter.specs.Claims.{orderFor}
 use Rattle.counter.proofs.OnMedia.{recovered-answers}
 use Rattle.counter_text.specs.declared.Question.{Question}
 use Rattle.counter_text.specs.declared.Question.the-variants as ask

@@ -1,10 +1,11 @@
--- What is asked and what is said: a question line by line; the room that each answer takes; and that a number past 32 bits is refused as the greatest of 32 bits is.
+-- What is asked and what is said: a question line by line; the room that each answer takes; and that a number past 32 bits is refused as
+-- the greatest of 32 bits is.
 use Prim.Native.Nat.{ℕ, zero, suc, _+_, _≤_, _<_}
 use mathlib.Core.Path.{_≡_, refl, sym, ap, _∙_}
 use mathlib.Core.Bool.{Bool, true, false}
-use mathlib.Core.List.{List, [], _++_}
+use mathlib.Core.List.{List}
 use native.Mathlib.Omega.{arith}
-use borrow.Author.Tests.{lt-ltb, le-ltb, lt-leb, ltb-true, ltb-false}
+use borrow.Author.Tests.{lt-ltb, le-ltb, lt-leb, ltb-false}
 use lib.Dec.{ltb, leb}
 use lib.ListN.{length, length-append}
 use Rattle.scope.specs.Bytes.{pick, numberAt}
@@ -16,7 +17,6 @@ use Rattle.recovered.specs.Recovered.{started, recovered, Recovers}
 use Rattle.text.specs.Text.{line, refusedKey, cellText, Wrote}
 use Rattle.text.proofs.Writing.{wrote-none, wrote-then, wrote-same, length-line, length-cell}
 use Rattle.lines.specs.Lines.{nthLine}
-use Rattle.lines.specs.declared.Line.{Line}
 use Rattle.lines.specs.declared.Line.the-variants as lines
 use Rattle.lines.specs.declared.Decimal.{Decimal}
 use Rattle.lines.specs.declared.Decimal.the-variants as decimal

@@ -1,8 +1,7 @@
--- What the counter's program says to what it is asked: lines of input, of which the first names the medium, the second and third are lowest and count and the fourth, if
--- there is one, the part in hand.
+-- What the counter's program says to what it is asked: lines of input, of which the first names the medium, the second and third are lowest
+-- and count and the fourth, if there is one, the part in hand.
 use Prim.Native.Nat.{ℕ, zero, suc, _+_}
 use mathlib.Core.Path.{_≡_}
-use mathlib.Core.Bool.{true, false}
 use mathlib.Core.List.{List, [], _∷_, _++_}
 use lib.Dec.{ltb}
 use Rattle.scope.specs.Bytes.{pick}

@@ -2,9 +2,7 @@
 use mathlib.Core.Path.{_≡_, refl}
 use mathlib.Core.List.{List, [], _∷_}
 use Prim.Native.Nat.{ℕ}
-use Rattle.lines.specs.declared.Line.{Line}
 use Rattle.lines.specs.declared.Line.the-variants as line
-use Rattle.lines.specs.declared.Decimal.{Decimal}
 use Rattle.lines.specs.declared.Decimal.the-variants as decimal
 use Rattle.lines.specs.Lines.{before, newline, lineEnd, nextLine, lineAt, nthFrom, nthLine, isDigit, allDigits, numberFrom, decimalFrom, decimalOf}
 

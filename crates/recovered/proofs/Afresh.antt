@@ -1,5 +1,5 @@
--- A MEDIUM OF A HISTORY, RECOVERED: the start is accepted, and the table is then the one worked out afresh from the stored transactions, under a head in rule. Demand 3's
--- steps are the definition's: a step after the end is refused, so none before the last one ended.
+-- A MEDIUM OF A HISTORY, RECOVERED: the start is accepted, and the table is then the one worked out afresh from the stored transactions,
+-- under a head in rule. Demand 3's steps are the definition's: a step after the end is refused, so none before the last one ended.
 use Prim.Native.Nat.{ℕ, zero, suc, _+_, _*_, _≤_, _<_}
 use mathlib.Core.Path.{_≡_, refl, sym, ap, subst, _∙_}
 use mathlib.Core.Bool.{Bool, true, false, false≢true}

@@ -175,11 +175,11 @@ fn counter(options: &Options) -> bool {
         |question: &Question| wrong.map_or_else(|| counting::second(question), |wrong| counting::goes(wrong, question));
     match counting::compare(seed, questions, library_counter, right) {
         Err(difference) => {
-            println!("\nat the counter, {wrong:?}, a difference: {difference}");
+            println!("at the counter a difference: {difference}");
             wrong.is_some()
         }
         Ok(met) => {
-            println!("\n{questions} questions at the counter, {wrong:?}: no difference");
+            println!("{questions} questions at the counter: no difference");
             met.iter().for_each(|(name, times)| println!("  {name}: {times}"));
             let missed: Vec<_> = counting::CASES.iter().filter(|case| !met.contains_key(**case)).collect();
             missed.iter().for_each(|case| println!("never reached: {case}"));

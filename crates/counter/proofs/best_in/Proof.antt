@@ -7,7 +7,6 @@ use Rattle.counter.specs.Counter.{bestFrom, bestIn}
 use Rattle.counter.proofs.Spans.{best-start, best-again, best-end}
 use Rattle.counter.proofs.best_in.Statement.{statement}
 use Rattle.counter.proofs.best_in.Tie as tie
-use Rattle.number.proofs.get8.Reads as get8-reads
 
 abbrev Inv-loop : tie.InvT-loop
 Inv-loop table lowest count sought end best₀ i₀ best i = (lowest ≤ i) × (i ≤ lowest + count) × (bestIn sought (cellsOf (lowest + count) table) lowest count ≡ bestFrom sought (cellsOf (lowest + count) table) i (lowest + count - i) best)
