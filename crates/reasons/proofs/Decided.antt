@@ -1,7 +1,7 @@
 -- THE DECISION IS RIGHT, over any list of entries and any table: by induction on the entries, with what those read so far say carried along.
 -- Where the open transaction has not touched the cell, the ended ones decide, and nothing after them names it. Where it has, its first update has the
 -- value that undoing gives, and its last the value now, whatever was there before.
-use Prim.Native.Nat.{ℕ, zero, suc, _+_, _<_}
+use Prim.Native.Nat.{ℕ, _+_, _<_}
 use mathlib.Core.Path.{_≡_, refl, sym, ap, _∙_, subst}
 use mathlib.Core.Bool.{Bool, true, false, _||_}
 use mathlib.Core.Logic.{_⊎_, inl, inr}

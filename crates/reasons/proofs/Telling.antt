@@ -2,15 +2,14 @@
 use Prim.Native.Nat.{ℕ, zero, suc, _+_, _-_, _<_, _≤_}
 use mathlib.Core.Path.{_≡_, refl, sym, ap, _∙_}
 use mathlib.Core.Logic.{⊎-elim}
-use mathlib.Core.Bool.{Bool, true, false}
+use mathlib.Core.Bool.{Bool, false}
 use mathlib.Core.List.{List, [], _∷_}
 use native.Mathlib.Omega.{arith}
 use borrow.Author.Tests.{eq-eqb, ne-eqb}
 use types.Run.{OneOf}
 use denote.Enum.Declared.{tagOf}
-use lib.Dec.{eqb}
 use Rattle.scope.specs.Bytes.{numberAt}
-use Rattle.scope.specs.Row.{Entry, update, commitEntry, abortEntry}
+use Rattle.scope.specs.Row.{Entry}
 use Rattle.scope.specs.Keeper.{firstMark, headOk}
 use Rattle.scope.specs.Recovery.{atMost}
 use Rattle.row.specs.Row.{entry}
@@ -18,7 +17,7 @@ use Rattle.row.specs.declared.Entry as code
 use Rattle.row.specs.declared.Entry.the-variants.{Update, Commit, Abort}
 use Rattle.walker.specs.declared.Seen.{Seen}
 use Rattle.walker.specs.declared.Seen.the-variants.{Holds, Malformed, End}
-use Rattle.walker.specs.Walk.{Met, holds, met, nextOn, followed, walkFrom, walk}
+use Rattle.walker.specs.Walk.{holds, met, nextOn, followed, walkFrom, walk}
 use Rattle.walker.proofs.Seen.{the-type}
 use Rattle.walker.proofs.Walking.{met-counts, walk-none}
 use Rattle.reasons.specs.declared.Reason.the-variants.{Written, Restored}

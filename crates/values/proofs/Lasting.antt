@@ -1,16 +1,15 @@
 -- The last entry of a walk is the last that counts: what stands after an entry says how the rest of the journal ends.
 use Prim.Native.Nat.{ℕ, zero, suc, _+_, _-_, _<_, _≤_}
-use mathlib.Core.Path.{_≡_, refl, sym, ap, _∙_, subst}
+use mathlib.Core.Path.{_≡_, refl, sym, ap, _∙_}
 use mathlib.Core.Bool.{Bool, true, false}
-use mathlib.Core.List.{List, [], _∷_}
+use mathlib.Core.List.{List, []}
 use mathlib.Core.Option.{Option, none, some}
 use native.Mathlib.Omega.{arith}
 use lib.Dec.{eqb}
-use lib.ListN.{length}
 use Rattle.scope.specs.Bytes.{pick, numberAt}
 use Rattle.scope.specs.Row.{Entry, readRow}
 use Rattle.scope.specs.Keeper.{headOk}
-use Rattle.scope.specs.Recovery.{rowsOf, also, firstly, entriesFrom, atMost, journal}
+use Rattle.scope.specs.Recovery.{rowsOf, firstly, entriesFrom, atMost, journal}
 use Rattle.replay.specs.Replay.{lastOf}
 use Rattle.row.specs.Row.{entry}
 use Rattle.row.specs.declared.Entry as code

@@ -1,23 +1,21 @@
 -- The values are those of a start in workspaces of zeros: refused where its head is out of rule or a row does not read, and else the replay over the table.
-use Prim.Native.Nat.{ℕ, _+_, _-_, _*_, _≤_, _<_}
+use Prim.Native.Nat.{ℕ, _-_, _*_, _≤_, _<_}
 use mathlib.Core.Path.{_≡_, refl, sym, ap, _∙_}
-use mathlib.Core.Bool.{Bool, true, false, _&&_}
+use mathlib.Core.Bool.{Bool, true, false}
 use mathlib.Core.List.{List}
 use native.Mathlib.Omega.{arith}
 use borrow.Author.Tests.{eq-eqb}
 use lib.ListN.{length, replicate, length-replicate}
 use Rattle.scope.specs.Bytes.{numberAt}
-use Rattle.scope.specs.Keeper.{refused, done, headOk}
+use Rattle.scope.specs.Keeper.{done, headOk}
 use Rattle.scope.specs.Recovery.{journal, tableOf}
 use Rattle.scope.specs.Refusals.{lentStart}
-use Rattle.scope.specs.Calls.{recoveryStart}
 use Rattle.state.specs.Lent.{stateless, left, lentTo}
 use Rattle.state.specs.declared.Phase.the-variants.{Idle, Recovering}
 use Rattle.journal.specs.Entries.{entryIn}
 use Rattle.replay.specs.Replay.{lastOf, upto, replayFrom}
 use Rattle.replay.specs.declared.scan.Counted.{Counted}
 use Rattle.replay.specs.declared.scan.Counted.the-variants.{Upto, Malformed}
-use Rattle.recovery.specs.Answers.{numbered}
 use Rattle.recovery.specs.declared.Started.{Started}
 use Rattle.recovery.proofs.Recovering.{Fit, start-upto, start-malformed, start-done}
 use Rattle.recovered.specs.Recovered.{started, headNumber}

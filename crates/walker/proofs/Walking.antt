@@ -10,7 +10,7 @@ use lib.Dec.{ltb, leb, eqb}
 use Rattle.scope.specs.Bytes.{pick, maxNo, numberAt}
 use Rattle.scope.specs.Row.{Entry, readRow}
 use Rattle.scope.specs.Keeper.{headOk}
-use Rattle.scope.specs.Recovery.{rowsOf, also, firstly, entriesFrom, atMost, journal}
+use Rattle.scope.specs.Recovery.{rowsOf, firstly, entriesFrom, atMost, journal}
 use Rattle.journal.specs.Entries.{entryIn}
 use Rattle.state.proofs.Facts.{and-left, and-right}
 use Rattle.walker.specs.Walk.{Met, holds, malformed, end, counts, asRead, nextIn, nextOn, followed, walkFrom, walk}

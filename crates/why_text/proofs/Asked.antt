@@ -31,7 +31,7 @@ use Rattle.reasons.specs.declared.Decision.{Decision}
 use Rattle.reasons.specs.Reason.{why}
 use Rattle.reasons.specs.Claim.{Claims}
 use Rattle.reasons.proofs.Accepted.{right}
-use Rattle.why_text.specs.Why.{fiveLines, cellWhy, askedWhy, whyText}
+use Rattle.why_text.specs.Why.{fiveLines, cellWhy, whyText}
 use Rattle.why_text.proofs.Saying.{length-five}
 
 module _ (m : List ℕ) where
