@@ -1,21 +1,19 @@
 -- A cell is counted: one case law for each way that a function ends, and what remains of a loop gives what all gives.
-use Prim.Native.Nat.{ℕ, zero, suc, _+_, _-_, _*_, _/_, _%_, _≤_, _<_}
-use mathlib.Core.Path.{_≡_, refl, sym, ap, _∙_}
+use Prim.Native.Nat.{ℕ, suc, _+_, _-_, _*_, _/_, _%_, _≤_, _<_}
+use mathlib.Core.Path.{_≡_, refl, sym, _∙_}
 use mathlib.Core.Bool.{Bool, true, false}
-use mathlib.Core.List.{List, [], _∷_}
+use mathlib.Core.List.{List}
 use native.Mathlib.Omega.{arith}
 use native.Mathlib.Numerals.{add-one}
 use borrow.Author.Tests.{lt-ltb, le-ltb, eq-eqb, ne-eqb}
-use lib.Dec.{ltb, eqb}
+use lib.Dec.{ltb}
 use lib.ListN.{length, getD, set, drop, length-set, drop-of-length-le}
 use lib.Seq.{drop-cons}
 use Rattle.scope.specs.Bytes.{pick}
-use Rattle.recovery.specs.Answers.{numbered}
 use Rattle.recovery.proofs.Recovering.{number-refused}
-use Rattle.recovered.specs.Recovered.{started}
-use Rattle.values.specs.Values.{valuesOf, Values}
+use Rattle.values.specs.Values.{Values}
 use Rattle.months.specs.declared.Month.{Month}
-use Rattle.months.specs.Month.{more, releaseOf, placeFrom, place, Tally, tally, metAfter, addAt, addCell, addCells, addStore, addStarted, addMedium, Sized, Tallies}
+use Rattle.months.specs.Month.{more, releaseOf, placeFrom, place, Tally, tally, metAfter, addAt, addCell, addCells, addStore, addMedium, Sized, Tallies}
 
 pub more-one : (x : ℕ) → x < 18446744073709551615 → x + 1 ≡ more x
 unfolding more

@@ -12,9 +12,8 @@ use Rattle.recovered.specs.Recovered.{started}
 use Rattle.recovered.proofs.Sizes.{started-cases}
 use Rattle.values.specs.Values.{valuesOf}
 use Rattle.months.specs.Month.{more, releaseOf, place, Tally, untallied, addAt, addCell, addCells, addStore, addStarted, addMedium}
-use Rattle.months.specs.Claim.{releasesIn, unlessRefused, releasesOn, isRefused, releasesMet, refusedOf, runFrom, run, often, sum, Counted, MonthEnd, Right}
+use Rattle.months.specs.Claim.{releasesIn, unlessRefused, releasesOn, isRefused, releasesMet, refusedOf, runFrom, Right}
 use Rattle.months.proofs.Adding.{more-one}
-use Rattle.months.proofs.Placed.{place-range}
 use Rattle.months.proofs.Summed.{Summed, summed-release}
 
 -- before any file

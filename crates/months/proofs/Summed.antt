@@ -3,15 +3,15 @@
 use Prim.Native.Nat.{ℕ, _+_, _≤_, _<_}
 use mathlib.Core.Path.{_≡_, refl, sym, ap, _∙_, subst}
 use mathlib.Core.Bool.{Bool, true, false}
-use mathlib.Core.List.{List, [], _∷_, _++_, append-assoc, append-nil}
+use mathlib.Core.List.{List, [], _∷_, _++_}
 use native.Mathlib.Omega.{arith}
-use borrow.Author.Tests.{eqb-true, eqb-false, ltb-true, ltb-false, lt-ltb, le-ltb, eq-eqb, ne-eqb}
+use borrow.Author.Tests.{eqb-true, eqb-false, ltb-true, ltb-false, lt-ltb, eq-eqb, ne-eqb}
 use lib.Dec.{ltb, eqb}
-use lib.ListN.{length, getD, set, replicate, length-append, length-set}
+use lib.ListN.{length, getD, set, length-append, length-set}
 use lib.Seq.{getD-set-same, getD-set-other, set-getD}
 use Rattle.scope.specs.Bytes.{pick}
-use Rattle.months.specs.Month.{more, releaseOf, place, Tally, untallied, metAfter, addAt, addCell, addCells, addStore}
-use Rattle.months.specs.Claim.{releasesIn, often, sum, Counted}
+use Rattle.months.specs.Month.{more, place, Tally, addAt}
+use Rattle.months.specs.Claim.{often, sum, Counted}
 use Rattle.months.proofs.Adding.{more-one, met-stays, met-grows}
 use Rattle.months.proofs.Placed.{place-range, place-holds, place-more, place-set, sum-more, sum-at, often-same, often-other}
 

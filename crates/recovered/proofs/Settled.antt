@@ -154,27 +154,18 @@ module _ (m current waiting : List ℕ) (d : Zeroed m current waiting) where
         (act RecoveryStart (stateless m current first last waiting) .answer ≡ started m .answer)
         × ((last-keeper .state ≡ recovered m .state) × (last-keeper .medium ≡ recovered m .medium))
 
-    lengths : headOk m ≡ true → length current ≡ numberAt 4 0 m
-    lengths t = zeroed-cells ∙ sym (head-number 0 m true (sym t) refl)
-
-    -- with a head in rule it is the start of the definition
-    pub started-same : headOk m ≡ true → act RecoveryStart (stateless m current first last waiting) ≡ started m
-    unfolding started
-    started-same t =
+    in-rule : headOk m ≡ true → As-started
+    unfolding started recovered
+    in-rule t =
         let n : headNumber 0 m ≡ numberAt 4 0 m = sym (head-number 0 m true (sym t) refl) in
         let c : headNumber 4 m ≡ numberAt 4 4 m = sym (head-number 4 m true (sym t) refl) in
+        let l = zeroed-cells ∙ n in
         let zeros : ℕ → List ℕ = λ x. replicate x 0 in
         let qc = d .current-zero ∙ ap zeros n in
         let qw = d .waiting-zero ∙ ap (λ x. replicate {A = ℕ} (32 * x) 0) c in
-        let qf′ = qf ∙ ap zeros (lengths t) in
-        let ql′ = ql ∙ ap zeros (lengths t) in
-        λ i. act RecoveryStart (stateless m (qc i) (qf′ i) (ql′ i) (qw i))
-
-    in-rule : headOk m ≡ true → As-started
-    unfolding recovered
-    in-rule t =
-        let l = lengths t in
-        let e = started-same t in
+        let qf′ = qf ∙ ap zeros l in
+        let ql′ = ql ∙ ap zeros l in
+        let e : act RecoveryStart (stateless m current first last waiting) ≡ started m = λ i. act RecoveryStart (stateless m (qc i) (qf′ i) (ql′ i) (qw i)) in
         (ap (λ o. o .answer) e, ((λ i. steps (l i + 1) (e i .keeper) .state), (λ i. steps (l i + 1) (e i .keeper) .medium)))
 
     out-of-rule : headOk m ≡ false → As-started

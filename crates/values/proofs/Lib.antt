@@ -1,1 +1,2 @@
+pub mod Lasting
 pub mod Starting

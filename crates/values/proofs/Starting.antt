@@ -1,34 +1,82 @@
--- A start in workspaces of zeros is the definition's where the head is in rule, and is refused alike where it isn't.
-use Prim.Native.Nat.{ℕ, _*_}
+-- The values are those of a start in workspaces of zeros: refused where its head is out of rule or a row does not read, and else the replay over the table.
+use Prim.Native.Nat.{ℕ, _-_, _*_, _≤_, _<_}
 use mathlib.Core.Path.{_≡_, refl, sym, ap, _∙_}
 use mathlib.Core.Bool.{Bool, true, false}
 use mathlib.Core.List.{List}
 use native.Mathlib.Omega.{arith}
-use lib.ListN.{length, replicate}
+use borrow.Author.Tests.{eq-eqb}
+use lib.ListN.{length, replicate, length-replicate}
 use Rattle.scope.specs.Bytes.{numberAt}
-use Rattle.scope.specs.Keeper.{refused, done, headOk}
-use Rattle.scope.specs.Refusals.{RecoveryStart}
-use Rattle.scope.specs.Calls.{act}
+use Rattle.scope.specs.Keeper.{done, headOk}
+use Rattle.scope.specs.Recovery.{journal, tableOf}
+use Rattle.scope.specs.Refusals.{lentStart}
 use Rattle.state.specs.Lent.{stateless, left, lentTo}
-use Rattle.recovery.specs.Answers.{numbered}
+use Rattle.state.specs.declared.Phase.the-variants.{Idle, Recovering}
+use Rattle.journal.specs.Entries.{entryIn}
+use Rattle.replay.specs.Replay.{lastOf, upto, replayFrom, replayed}
+use Rattle.replay.specs.declared.scan.Counted.{Counted}
+use Rattle.replay.specs.declared.scan.Counted.the-variants.{Upto, Malformed}
 use Rattle.recovery.specs.declared.Started.{Started}
-use Rattle.recovered.specs.Recovered.{started, Zeroed}
-use Rattle.recovered.proofs.Settled.{start-none, started-same}
+use Rattle.recovery.proofs.Recovering.{Fit, start-upto, start-malformed, start-read, start-done}
+use Rattle.recovered.specs.Recovered.{started, headNumber}
+use Rattle.recovered.proofs.Settled.{start-none, head-number}
 use Rattle.values.specs.Values.{valuesOf, Values}
 
-module _ (m current waiting first last : List ℕ) (z : Zeroed m current waiting) (qf : first ≡ replicate (length current) 0) (ql : last ≡ replicate (length current) 0) where
-  pub starts : (s : Started) (current′ first′ last′ : List ℕ)
-      → left (numbered (s .number)) (s .numbers) (s .phase) m current′ first′ last′ waiting ≡ act RecoveryStart (stateless m current first last waiting)
-      → Values m (s .number) current′
-  unfolding left lentTo started valuesOf
-  starts s current′ first′ last′ e = go (headOk m) refl
-    where
-      go : (t : Bool) → headOk m ≡ t → Values m (s .number) current′
-      go true t =
-          let q = e ∙ started-same m current waiting z first last qf ql t in
-          record { answer = ap (λ o. o .answer) q; done = λ n. ap (λ o. o .keeper .current) q }
-      go false t =
-          let n = numberAt 4 0 m in
-          let a = ap (λ o. o .answer) (e ∙ start-none m current first last waiting t) in
-          let b = ap (λ o. o .answer) (start-none m (replicate n 0) (replicate n 0) (replicate n 0) (replicate (32 * numberAt 4 4 m) 0) t) in
-          record { answer = a ∙ sym b; done = λ q. let r : done 0 ≡ refused 1 = sym (ap numbered q) ∙ a in let w : _≡_ {A = ℕ} 0 1 = cc in absurd (omega arith) }
+module _ (m : List ℕ) (t : Bool) (e : t ≡ headOk m) where
+  abbrev N : ℕ
+  N = numberAt 4 0 m
+
+  abbrev C : ℕ
+  C = numberAt 4 4 m
+
+  abbrev zs : List ℕ
+  zs = replicate N 0
+
+  abbrev ws : List ℕ
+  ws = replicate (32 * C) 0
+
+  pub values-headless : t ≡ false → (current : List ℕ) → Values m 1 current
+  unfolding started
+  values-headless p current =
+      record { answer = sym (ap (λ o. o .answer) (start-none m zs zs zs ws (sym e ∙ p))); done = λ q. absurd (omega arith) }
+
+  module _ (p : t ≡ true) where
+    -- zeros for each cell are as many as the head says
+    pub values-cells : (current : List ℕ) → current ≡ replicate (headNumber 0 m) 0 → length current ≡ N
+    values-cells current q = ap length q ∙ length-replicate (headNumber 0 m) 0 ∙ sym (head-number 0 m t e p)
+
+    fit : true ≡ Fit m zs zs zs ws
+    unfolding lentStart stateless
+    fit = sym (rw (sym e ∙ p, length-replicate {A = ℕ} N 0, length-replicate {A = ℕ} (32 * C) 0, eq-eqb N N refl, eq-eqb (32 * C) (32 * C) refl))
+
+    module _ (n c h : ℕ) (qn : n ≡ N) (qc : c ≡ C) (qh : h ≡ numberAt 4 8 m) (u : Counted) (qu : upto u ≡ lastOf h (journal N C h m)) where
+      counted : upto u ≡ lastOf h (journal n c h m)
+      counted = qu ∙ (λ i. lastOf h (journal (sym qn i) (sym qc i) h m))
+
+      pub values-malformed : u ≡ Malformed → (current : List ℕ) → Values m 2 current
+      unfolding started left
+      values-malformed g current =
+          let r : Started = record { number = 2; numbers = record { cells = 0; slots = 0; h = 0; f = 0; l = 0; o = 0 }; phase = Idle } in
+          record {
+            answer = ap (λ o. o .answer) (start-malformed m zs zs zs ws true fit refl n c h qn qc qh u counted g r refl);
+            done = λ q. absurd (omega arith);
+          }
+
+      module _ (x : ℕ) (g : u ≡ Upto x) where
+        pub values-upto : h < 4294967296 → h ≤ x
+        values-upto f = start-upto m zs zs zs ws true fit refl n c h qn qc qh u counted x g f
+
+        module _ (size : ℕ) (qz : size ≡ N) (all : Bool) (loaded current : List ℕ) (ql : loaded ≡ tableOf size c m) (qr : replayed all current ≡ replayFrom (entryIn m 32 c n) (x - h) h h loaded) where
+          zeros-loaded : loaded ≡ tableOf (length zs) c m
+          zeros-loaded = ql ∙ ap (λ k. tableOf k c m) (qz ∙ sym (length-replicate {A = ℕ} N 0))
+
+          -- behind the walk replay refuses no row
+          pub values-read : all ≡ false → ⊥
+          values-read q = start-read m zs zs zs ws true fit refl n c h qn qc qh u counted x g all loaded current zeros-loaded qr q
+
+          pub values-done : all ≡ true → Values m 0 current
+          unfolding started valuesOf left lentTo
+          values-done ok =
+              let r : Started = record { number = 0; numbers = record { cells = n; slots = c; h = h; f = x; l = x; o = x }; phase = Recovering } in
+              let s = start-done m zs zs zs ws true fit refl n c h qn qc qh u counted x g all loaded current zeros-loaded qr (replicate (length zs) 0) (replicate (length zs) 0) refl refl ok r refl in
+              record { answer = ap (λ o. o .answer) s; done = λ q. ap (λ o. o .keeper .current) s }

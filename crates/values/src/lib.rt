@@ -1,36 +1,64 @@
-// The values that recovery gives the cells of a medium, in the caller's memory: recovery start in workspaces of zeros. The medium is not changed.
+// The values that recovery gives the cells of a medium, in the caller's memory. The medium is not changed: a walk over its rows says which entries
+// count, and these are replayed over the table.
 ghost use mathlib.Core.Path.{_≡_};
+ghost use mathlib.Core.Bool.{true};
 ghost use lib.ListN.{replicate};
-ghost use Rattle.recovered.specs.Recovered.{headNumber, Zeroed};
+ghost use Rattle.scope.specs.Bytes.{numberAt};
+ghost use Rattle.scope.specs.Keeper.{headOk};
+ghost use Rattle.scope.specs.Recovery.{journal};
+ghost use Rattle.replay.specs.Replay.{lastOf, upto};
+ghost use Rattle.recovered.specs.Recovered.{headNumber};
 ghost use Rattle.values.specs.Values.{Values};
-use recovered::head_number;
-use recovery::recovery_start;
+use medium::head::head_ok;
+use medium::table::load;
+use replay::entries::replay;
+use replay::scan::Counted;
+use walker::Seen;
+use walker::after;
 
-// With waiting rows of zeros as the head says.
-fn values_with(medium: &[u8], current: &mut [u64], waiting: &[u8]) -> u32
-    requires { ⌜ Zeroed (now medium) (now current) (now waiting) ⌝ }
-    ensures { λ r. ⌜ Values (now (medium .entry)) r (now (current .exit)) ⌝ }
+// The last entry that a walk from h meets, or that it meets a row that does not read.
+fn last_met(medium: &[u8], h: u32) -> Counted
+    requires { ⌜ (h ≡ numberAt 4 8 (now medium)) × (headOk (now medium) ≡ true) ⌝ }
+    ensures { λ r. ⌜ upto r ≡ lastOf h (journal (numberAt 4 0 (now (medium .entry))) (numberAt 4 4 (now (medium .entry))) h (now (medium .entry))) ⌝ }
 {
-    let cells = current.len();
-    let mut first = [0; 1024];
-    let mut last = [0; 1024];
-    let start = recovery_start(
-        medium,
-        current,
-        &mut first[..cells],
-        &mut last[..cells],
-        waiting,
-    );
-    start.number
+    let mut n = h;
+    loop {
+        let seen = after(medium, n);
+        match seen {
+            Seen::Holds { number, what: _ } => {
+                n = number;
+            }
+            Seen::Malformed => {
+                return Counted::Malformed;
+            }
+            Seen::End => {
+                return Counted::Upto(n);
+            }
+        }
+    }
 }
 
-// Puts the recovered values into zeros, one for each cell, and answers the start's number. Goes over the entries that count twice, and once over
-// the table.
+// Puts the recovered values into zeros, one for each cell, and answers 0, or the number that recovery start refuses the medium with. Goes over the entries
+// that count twice, once over the table, and once more over each undone row.
 pub fn values(medium: &[u8], current: &mut [u64]) -> u32
     requires { ⌜ now current ≡ replicate (headNumber 0 (now medium)) 0 ⌝ }
     ensures { λ r. ⌜ Values (now (medium .entry)) r (now (current .exit)) ⌝ }
 {
-    let rows = 32 * head_number(medium, 4);
-    let waiting = [0; 32768];
-    values_with(medium, current, &waiting[..rows])
+    let ok = head_ok(medium);
+    if ok {} else {
+        return 1;
+    }
+    let cells = number::get4(medium, 0);
+    let slots = number::get4(medium, 4);
+    let h = number::get4(medium, 8);
+    let counted = last_met(medium, h);
+    let Counted::Upto(e) = counted else {
+        return 2;
+    };
+    load(medium, slots, current);
+    let read = replay(medium, slots, cells, h, e, current);
+    if read {} else {
+        return 2;
+    }
+    0
 }

@@ -10,7 +10,7 @@ use lib.Dec.{ltb, leb, eqb}
 use Rattle.scope.specs.Bytes.{pick, maxNo, numberAt}
 use Rattle.scope.specs.Row.{Entry, readRow}
 use Rattle.scope.specs.Keeper.{headOk}
-use Rattle.scope.specs.Recovery.{rowsOf, also, firstly, entriesFrom, atMost, journal}
+use Rattle.scope.specs.Recovery.{rowsOf, firstly, entriesFrom, atMost, journal}
 use Rattle.journal.specs.Entries.{entryIn}
 use Rattle.state.proofs.Facts.{and-left, and-right}
 use Rattle.walker.specs.Walk.{Met, holds, malformed, end, counts, asRead, nextIn, nextOn, followed, walkFrom, walk}
@@ -79,7 +79,7 @@ most slots h = go (leb slots (4294967295 - h)) refl
     go true e = (omega arith, leb-true slots (4294967295 - h) e)
     go false e = (omega (arith, leb-false slots (4294967295 - h) e), omega arith)
 
-least : (slots h k : ℕ) → k < slots → k < 4294967295 - h → k < atMost slots h
+pub least : (slots h k : ℕ) → k < slots → k < 4294967295 - h → k < atMost slots h
 unfolding atMost maxNo
 least slots h k p q = go (leb slots (4294967295 - h))
   where
@@ -122,7 +122,7 @@ module _ (m : List ℕ) (ok : headOk m ≡ true) where
   abbrev h : ℕ
   h = numberAt 4 8 m
 
-  next-counts : (n : ℕ) → h ≤ n → n - h < atMost C h → nextOn m n ≡ nextIn (rowsOf C m) N n
+  pub next-counts : (n : ℕ) → h ≤ n → n - h < atMost C h → nextOn m n ≡ nextIn (rowsOf C m) N n
   next-counts n p q =
       let b = most C h in
       let u : true ≡ counts C h n = sym (lt-ltb (n - h) C (omega arith)) ∙ counts-rest C h n p (omega arith) in

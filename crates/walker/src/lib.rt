@@ -1,7 +1,7 @@
 // A walker over the rows of one medium: it holds the medium by reference, and the number of the last entry that it has passed. A walk that begins
 // after h meets the entries that recovery start reads, one by one.
 ghost use mathlib.Core.Path.{_≡_};
-ghost use Prim.Native.Nat.{_+_, _*_, _<_};
+ghost use Prim.Native.Nat.{_+_, _<_};
 ghost use Rattle.scope.specs.Recovery.{rowsOf};
 ghost use Rattle.journal.specs.Entries.{Rows};
 ghost use Rattle.walker.specs.Walk.{met, counts, nextIn, nextOn};

@@ -59,47 +59,67 @@ fn tell(name: &[u8], medium: &[u8], line: &[u8]) {
     io::write_all(1, &text[0..end]);
 }
 
-// Cell 0 by entries of one kind or another.
-fn reasons() {
+// No entry names the cell, or a committed transaction decides.
+fn kept() {
     let first = update(0, 0, A);
-    let second = update(0, A, B);
     let other = update(1, 0, A);
     let none = made(0, 0, first, first, first, first);
     tell(b"no entry", &none, b"0");
     let others = made(0, 2, other, Entry::Commit, first, first);
     tell(b"another cell's entries", &others, b"0");
     tell(b"committed", &others, b"1");
-    let twice = made(0, 4, first, second, other, Entry::Commit);
-    tell(b"committed, written twice", &twice, b"0");
+}
+
+// A cell written twice.
+fn twice() {
+    let first = update(0, 0, A);
+    let second = update(0, A, B);
+    let other = update(1, 0, A);
+    let written = made(0, 4, first, second, other, Entry::Commit);
+    tell(b"committed, written twice", &written, b"0");
     let aborted = made(0, 3, first, second, Entry::Abort, first);
     tell(b"aborted, written twice", &aborted, b"0");
+}
+
+// A transaction without an end, and later transactions.
+fn later() {
+    let first = update(0, 0, A);
+    let second = update(0, A, B);
+    let other = update(1, 0, A);
     let open = made(0, 3, first, Entry::Commit, second, first);
     tell(b"unfinished", &open, b"0");
-    let later = made(0, 4, first, Entry::Commit, other, Entry::Abort);
-    tell(b"a later transaction of another cell", &later, b"0");
-    tell(b"that other cell", &later, b"1");
+    let more = made(0, 4, first, Entry::Commit, other, Entry::Abort);
+    tell(b"a later transaction of another cell", &more, b"0");
+    tell(b"that other cell", &more, b"1");
     let turned = made(7, 4, first, Entry::Abort, second, Entry::Commit);
     tell(b"rows used again", &turned, b"00");
 }
 
-// Refusals, and which comes first.
-fn refusals() {
-    let first = update(0, 0, A);
-    let mut medium = made(0, 2, first, Entry::Commit, first, first);
-    tell(b"no such cell", &medium, b"2");
-    tell(b"no number", &medium, b"0x1");
-    tell(b"no line", &medium, b"");
-    tell(b"above 64 bits", &medium, b"18446744073709551616");
-    poke(&mut medium, 68, 4);
-    tell(b"a row that does not read", &medium, b"0");
-    tell(b"that, and no such cell", &medium, b"2");
-    poke(&mut medium, 12, 1);
-    tell(b"a head out of rule", &medium, b"0");
-    tell(b"that, and no number", &medium, b"");
+// Lines that ask for no cell.
+fn no_cell(medium: &[u8]) {
+    tell(b"no such cell", medium, b"2");
+    tell(b"no number", medium, b"0x1");
+    tell(b"no line", medium, b"");
+    tell(b"above 64 bits", medium, b"18446744073709551616");
+}
+
+// Which refusal comes first.
+fn damaged(medium: &mut [u8]) {
+    poke(medium, 68, 4);
+    tell(b"a row that does not read", medium, b"0");
+    tell(b"that, and no such cell", medium, b"2");
+    poke(medium, 12, 1);
+    tell(b"a head out of rule", medium, b"0");
+    tell(b"that, and no number", medium, b"");
     tell(b"no byte at all", &medium[0..0], b"0");
 }
 
 fn main() {
-    reasons();
-    refusals();
+    kept();
+    twice();
+    later();
+    let first = update(0, 0, A);
+    let mut medium = made(0, 2, first, Entry::Commit, first, first);
+    no_cell(&medium);
+    damaged(&mut medium);
 }

@@ -2,8 +2,7 @@
 use Prim.Native.Nat.{_≤_}
 use borrow.Author.Needs.{needs}
 use lib.ListN.{length}
-use mathlib.Core.Path.{_≡_, refl}
-use native.Mathlib.Omega.{arith}
+use mathlib.Core.Path.{_≡_}
 use Rattle.month.proofs.main.Statement.{statement}
 use Rattle.month.proofs.main.Tie as tie
 

@@ -2,7 +2,6 @@
 use borrow.Author.Needs.{needs}
 use lib.ListN.{length}
 use mathlib.Core.Path.{_≡_}
-use native.Mathlib.Omega.{arith}
 use Rattle.month.proofs.read_name.Statement.{statement}
 use Rattle.month.proofs.read_name.Tie as tie
 

@@ -1,5 +1,4 @@
 -- `months::add_cell` meets its contract: one case law for an empty cell, one for a cell of other releases, one for a cell that is counted.
-use native.Mathlib.Omega.{arith}
 use Rattle.months.proofs.Adding.{cell-empty, cell-other, cell-counted}
 use borrow.Author.Needs.{needs}
 use Rattle.months.proofs.add_cell.Statement.{statement}

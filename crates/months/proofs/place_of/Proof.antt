@@ -1,6 +1,6 @@
 -- `months::place_of` meets its contract. The invariant: what remains of the releases gives the place that all give.
 use Prim.Native.Nat.{_-_, _≤_}
-use mathlib.Core.Path.{_≡_, sym}
+use mathlib.Core.Path.{_≡_}
 use native.Mathlib.Omega.{arith}
 use borrow.Author.Needs.{needs}
 use Rattle.months.specs.Month.{placeFrom, place}

@@ -1,5 +1,4 @@
 -- `reasons::committed` meets its contract: a transaction without an update of the cell decides nothing.
-use native.Mathlib.Omega.{arith}
 use Rattle.reasons.proofs.Telling.{written-none, written-last}
 use Rattle.reasons.proofs.committed.Statement.{statement}
 use Rattle.reasons.proofs.committed.Tie as tie

@@ -1,6 +1,6 @@
 -- `reasons::tell_all` meets its contract. The invariant: what remains of the walk, after what was read, says what all of it says. The measure: how many
 -- entries it may still meet.
-use Prim.Native.Nat.{_-_, _≤_}
+use Prim.Native.Nat.{_-_}
 use mathlib.Core.Path.{_≡_}
 use native.Mathlib.Omega.{arith}
 use borrow.Author.Needs.{needs}

@@ -1,5 +1,4 @@
 -- `reasons::undone` meets its contract: a transaction without an update of the cell decides nothing.
-use native.Mathlib.Omega.{arith}
 use Rattle.reasons.proofs.Telling.{restored-none, restored-first}
 use Rattle.reasons.proofs.undone.Statement.{statement}
 use Rattle.reasons.proofs.undone.Tie as tie

@@ -1,7 +1,6 @@
 -- `walker::row_after` meets its contract: one case law for each way that it ends, over the row's number and what the row reads as.
 use Prim.Native.Nat.{_+_}
 use mathlib.Core.Path.{ap}
-use native.Mathlib.Omega.{arith}
 use Rattle.journal.proofs.RowPlaces.{number-from, read-from}
 use Rattle.journal.proofs.Meanings.{is-nothing, is-some}
 use Rattle.walker.proofs.Walking.{next-other, next-malformed, next-holds}
