@@ -1,1 +1,2 @@
 pub mod MonthText
+pub mod Claim

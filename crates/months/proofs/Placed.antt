@@ -4,7 +4,7 @@ use mathlib.Core.Path.{_≡_, refl, ap, _∙_}
 use mathlib.Core.Bool.{Bool, true, false}
 use mathlib.Core.List.{List, [], _∷_, _++_}
 use native.Mathlib.Omega.{arith}
-use borrow.Author.Tests.{eqb-true, lt-ltb, le-ltb, eq-eqb, ne-eqb}
+use borrow.Author.Tests.{eqb-true, eqb-false, lt-ltb, le-ltb, eq-eqb, ne-eqb}
 use lib.Dec.{ltb, eqb}
 use lib.ListN.{length, getD, set}
 use lib.Seq.{getD-set-other}
@@ -40,6 +40,23 @@ module _ (rs : List ℕ) (r : ℕ) where
   pub place-holds : (met : ℕ) → place rs r met < met → getD rs (place rs r met) 0 ≡ r
   unfolding place
   place-holds met h = from-holds met 0 (omega (arith, h))
+
+  from-finds : (left i k : ℕ) → i ≤ k → k < i + left → getD rs k 0 ≡ r → placeFrom rs r left i < i + left
+  unfolding placeFrom
+  from-finds zero i k p q e = absurd (omega (arith, p, q))
+  from-finds (suc left) i k p q e = go (eqb (getD rs i 0) r) refl (from-finds left (i + 1) k)
+    where
+      go : (b : Bool) → eqb (getD rs i 0) r ≡ b → (i + 1 ≤ k → k < i + 1 + left → getD rs k 0 ≡ r → placeFrom rs r left (i + 1) < i + 1 + left)
+          → pick b i (placeFrom rs r left (i + 1)) < i + suc left
+      go true z ih = omega arith
+      go false z ih =
+          let n : i ≡ k → ⊥ = λ y. eqb-false (getD rs i 0) r z (ap (λ x. getD rs x 0) y ∙ e) in
+          omega (arith, ih (omega (arith, p, n)) (omega (arith, q)) e)
+
+  -- a release that stands at one of the places has its place among them
+  pub place-finds : (met k : ℕ) → k < met → getD rs k 0 ≡ r → place rs r met < met
+  unfolding place
+  place-finds met k q e = omega (arith, from-finds met 0 k (omega arith) (omega (arith, q)) e)
 
   -- one more place
   abbrev Next : ℕ → ℕ → ℕ
