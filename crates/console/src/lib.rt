@@ -2,7 +2,7 @@
 // data. Nothing is checked here: the keeper does its own checking.
 ghost use mathlib.Core.Path.{_≡_};
 ghost use Prim.Native.Nat.{_+_, _<_, _≤_};
-ghost use Rattle.scope.specs.Keeper.{done, refused, cell, head, clean, stored, valueOf, rowAt};
+ghost use Rattle.scope.specs.Keeper.{refused, cell, valueOf, rowAt};
 ghost use Rattle.recovery.specs.Answers.{stepped};
 ghost use Rattle.keeper.specs.Answers.{answered, writtenBack, handed};
 ghost use Rattle.console.specs.Made.{nowhere, cutPlace, forcePlace, backPlace, stepPlace, didOf, callOf, Made};
@@ -170,7 +170,7 @@ fn walked(out: Stepped, slots: u32) -> Did
 }
 
 // Begin, write, abort: nothing is stored.
-fn on_desk(
+fn on_workspaces(
     state: State,
     asked: Asked,
     medium: &[u8],
@@ -180,7 +180,10 @@ fn on_desk(
     waiting: &mut [u8],
 ) -> Did
     requires { ⌜ asked .call < 3 ⌝ }
-    ensures { λ r. let before = handed state (now (medium .entry)) (now (current .entry)) (now (first .entry)) (now (last .entry)) (now (waiting .entry)) in let after = handed (r .state) (now (medium .entry)) (now (current .exit)) (now (first .exit)) (now (last .exit)) (now (waiting .exit)) in ⌜ Made (callOf asked) before r after ⌝ }
+    ensures { λ r.
+        let before = handed state (now (medium .entry)) (now (current .entry)) (now (first .entry)) (now (last .entry)) (now (waiting .entry)) in
+        let after = handed (r .state) (now (medium .entry)) (now (current .exit)) (now (first .exit)) (now (last .exit)) (now (waiting .exit)) in
+        ⌜ Made (callOf asked) before r after ⌝ }
 {
     if asked.call == BEGIN {
         return plain(state.begin(current, first, last, waiting));
@@ -202,7 +205,10 @@ fn on_rows(
     waiting: &mut [u8],
 ) -> Did
     requires { ⌜ (3 ≤ asked .call) × (asked .call < 5) ⌝ }
-    ensures { λ r. let before = handed state (now (medium .entry)) (now (current .entry)) (now (first .entry)) (now (last .entry)) (now (waiting .entry)) in let after = handed (r .state) (now (medium .entry)) (now (current .entry)) (now (first .entry)) (now (last .entry)) (now (waiting .exit)) in ⌜ Made (callOf asked) before r after ⌝ }
+    ensures { λ r.
+        let before = handed state (now (medium .entry)) (now (current .entry)) (now (first .entry)) (now (last .entry)) (now (waiting .entry)) in
+        let after = handed (r .state) (now (medium .entry)) (now (current .entry)) (now (first .entry)) (now (last .entry)) (now (waiting .exit)) in
+        ⌜ Made (callOf asked) before r after ⌝ }
 {
     if asked.call == COMMIT {
         return plain(state.commit(waiting));
@@ -221,7 +227,10 @@ fn on_card(
     waiting: &[u8],
 ) -> Did
     requires { ⌜ (5 ≤ asked .call) × (asked .call ≡ 9 → ⊥) ⌝ }
-    ensures { λ r. let before = handed state (now (medium .entry)) (now (current .entry)) (now (first .entry)) (now (last .entry)) (now (waiting .entry)) in let after = handed (r .state) (now (medium .exit)) (now (current .entry)) (now (first .exit)) (now (last .entry)) (now (waiting .entry)) in ⌜ Made (callOf asked) before r after ⌝ }
+    ensures { λ r.
+        let before = handed state (now (medium .entry)) (now (current .entry)) (now (first .entry)) (now (last .entry)) (now (waiting .entry)) in
+        let after = handed (r .state) (now (medium .exit)) (now (current .entry)) (now (first .exit)) (now (last .entry)) (now (waiting .entry)) in
+        ⌜ Made (callOf asked) before r after ⌝ }
 {
     let slots = state.numbers.slots;
     if asked.call == FORCE {
@@ -250,10 +259,13 @@ pub fn make(
     last: &mut [u32],
     waiting: &mut [u8],
 ) -> Did
-    ensures { λ r. let before = handed state (now (medium .entry)) (now (current .entry)) (now (first .entry)) (now (last .entry)) (now (waiting .entry)) in let after = handed (r .state) (now (medium .exit)) (now (current .exit)) (now (first .exit)) (now (last .exit)) (now (waiting .exit)) in ⌜ Made (callOf asked) before r after ⌝ }
+    ensures { λ r.
+        let before = handed state (now (medium .entry)) (now (current .entry)) (now (first .entry)) (now (last .entry)) (now (waiting .entry)) in
+        let after = handed (r .state) (now (medium .exit)) (now (current .exit)) (now (first .exit)) (now (last .exit)) (now (waiting .exit)) in
+        ⌜ Made (callOf asked) before r after ⌝ }
 {
     if asked.call < COMMIT {
-        return on_desk(state, asked, medium, current, first, last, waiting);
+        return on_workspaces(state, asked, medium, current, first, last, waiting);
     }
     if asked.call < FORCE {
         return on_rows(state, asked, medium, current, first, last, waiting);

@@ -5,7 +5,7 @@ pub mod show;
 ghost use mathlib.Core.Path.{_≡_};
 ghost use mathlib.Core.Bool.{false};
 ghost use Rattle.words.specs.Words.{wordNumber, wordRelease};
-ghost use Rattle.orders.specs.Orders.{told, wrongOrder, numberOrder, writeOrder};
+ghost use Rattle.orders.specs.Orders.{told, numberOrder, writeOrder};
 use console::Asked;
 use words::Parsed;
 use words::Span;

@@ -8,9 +8,8 @@ use native.Mathlib.Omega.{arith}
 use lib.Dec.{ltb}
 use lib.ListN.{replicate}
 use Rattle.scope.specs.Bytes.{pick, numberAt}
-use Rattle.scope.specs.Row.{Entry}
 use Rattle.scope.specs.Keeper.{Keeper, Answer, Outcome, done, refused, headOk, withState, withMedium, droppedTo, madeTo, storeCell, storeHead}
-use Rattle.scope.specs.Recovery.{tableOf, journal, differing}
+use Rattle.scope.specs.Recovery.{tableOf, differing}
 use Rattle.scope.specs.Refusals.{RecoveryStart, RecoveryStep, refusal}
 use Rattle.scope.specs.Calls.{stepAt, performed, unchanged, unless, act}
 use Rattle.state.specs.State.{stateOf}

@@ -4,14 +4,13 @@ use mathlib.Core.Path.{_≡_, refl, sym, ap, _∙_}
 use mathlib.Core.Bool.{Bool, true, false, _&&_}
 use mathlib.Core.List.{List}
 use mathlib.Core.Option.{Option, none, some}
-use native.Mathlib.Numerals.{add-one}
 use native.Mathlib.Omega.{arith}
 use borrow.Author.Tests.{leb-true, le-leb, lt-leb, lt-ltb, le-ltb, eq-eqb, ne-eqb}
-use lib.Dec.{leb, ltb, eqb}
+use lib.Dec.{leb, ltb}
 use lib.ListN.{getD}
 use Rattle.scope.specs.Bytes.{pick}
 use Rattle.words.specs.declared.Parsed.{Parsed}
-use Rattle.words.specs.declared.Parsed.the-variants.{Is, Not}
+use Rattle.words.specs.declared.Parsed.the-variants.{Is}
 use Rattle.words.specs.Words.{parsed, isDigit, more, digits, wordNumber, pointIn, joinedRelease, wordRelease}
 
 never : (m : ℕ) → none ≡ some m → ⊥

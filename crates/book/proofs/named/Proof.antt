@@ -11,32 +11,11 @@ Inv-loop book cell n i₀ i = Unit {0}
 abbrev μ-loop : tie.MeasureT-loop
 μ-loop book cell n i₀ i = n - i
 
-used-requires : tie.Need-used-requires Inv-loop μ-loop
-used-requires c κs = search needs
-
-loop-holds : tie.Need-loop-holds Inv-loop μ-loop
-loop-holds c = search needs
-
-place-requires : tie.Need-place-requires Inv-loop μ-loop
-place-requires c κs = search needs
-
-get-requires : tie.Need-get-requires Inv-loop μ-loop
-get-requires c κs = search needs
-
-returns : tie.Need-returns Inv-loop μ-loop
-returns c = search needs
-
 add-i : tie.Need-add-i Inv-loop μ-loop
 add-i c = omega arith
 
 loop-less : tie.Need-loop-less Inv-loop μ-loop
 loop-less c = omega arith
-
-loop-again : tie.Need-loop-again Inv-loop μ-loop
-loop-again c = search needs
-
-returns-2 : tie.Need-returns-2 Inv-loop μ-loop
-returns-2 c = search needs
 
 pub named-spec : {M : Type 1} → statement M
 named-spec =
@@ -44,12 +23,12 @@ named-spec =
     (tie.spec
     Inv-loop
     μ-loop
-    used-requires
-    loop-holds
-    place-requires
-    get-requires
-    returns
+    (λ c κs. search needs)
+    (λ c. search needs)
+    (λ c κs. search needs)
+    (λ c κs. search needs)
+    (λ c. search needs)
     add-i
     loop-less
-    loop-again
-    returns-2)
+    (λ c. search needs)
+    (λ c. search needs))

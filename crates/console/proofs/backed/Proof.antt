@@ -7,27 +7,6 @@ use Rattle.console.specs.Made.{backPlace}
 use Rattle.console.proofs.backed.Statement.{statement}
 use Rattle.console.proofs.backed.Tie as tie
 
-enum-told : tie.Need-enum-told
-enum-told c = search needs
-
-cell-at-requires : tie.Need-cell-at-requires
-cell-at-requires c κs = search needs
-
-answer-requires : tie.Need-answer-requires
-answer-requires c κs = search needs
-
-enum-told-2 : tie.Need-enum-told-2
-enum-told-2 c = search needs
-
-answer-requires-2 : tie.Need-answer-requires-2
-answer-requires-2 c κs = search needs
-
-enum-known-said : tie.Need-enum-known-said
-enum-known-said c = search needs
-
-refusal-requires : tie.Need-refusal-requires
-refusal-requires c κs = search needs
-
 returns : tie.Need-returns
 returns c = did-as writtenBack (backPlace _ _) _ _ _ _ (c .before .before .enum-told .given .1) (placed stored _ _ _ _ _ (c .before .cell-at .ensures) (c .answer .ensures))
 
@@ -41,13 +20,13 @@ pub backed-spec : {M : Type 1} → statement M
 backed-spec =
     tie.close
     (tie.spec
-    enum-told
-    cell-at-requires
-    answer-requires
-    enum-told-2
-    answer-requires-2
-    enum-known-said
-    refusal-requires
+    (λ c. search needs)
+    (λ c κs. search needs)
+    (λ c κs. search needs)
+    (λ c. search needs)
+    (λ c κs. search needs)
+    (λ c. search needs)
+    (λ c κs. search needs)
     returns
     returns-2
     returns-3)

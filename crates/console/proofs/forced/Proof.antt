@@ -4,33 +4,18 @@ use Rattle.console.proofs.Making.{did-as, force-none, force-row}
 use Rattle.keeper.specs.Answers.{answered}
 use Rattle.scope.specs.Keeper.{valueOf}
 use Rattle.console.specs.Made.{forcePlace}
-use mathlib.Core.Path.{ap, sym, subst}
+use mathlib.Core.Path.{sym, subst}
 use Prim.Native.Nat.{_<_}
 use native.Mathlib.Omega.{arith}
 use Rattle.keeper.specs.declared.Answer as plain
 use Rattle.console.proofs.forced.Statement.{statement}
 use Rattle.console.proofs.forced.Tie as tie
 
-enum-known-said : tie.Need-enum-known-said
-enum-known-said c = search needs
-
-answer-requires : tie.Need-answer-requires
-answer-requires c κs = search needs
-
 returns : tie.Need-returns
 returns c = did-as answered (forcePlace _) _ _ _ _ (c .before .before .before .said .given .1) (force-none _ _ _ _ (omega arith) (c .answer .ensures))
 
 row-place-requires : tie.Need-row-place-requires
 row-place-requires c κs = (c .before .before .before .before .before .pre (subst (λ (a : plain.Answer). 0 < valueOf (answered a)) (sym (c .before .before .said .given .1)) (omega arith)), omega arith)
-
-answer-requires-2 : tie.Need-answer-requires-2
-answer-requires-2 c κs = search needs
-
-enum-known-said-2 : tie.Need-enum-known-said-2
-enum-known-said-2 c = search needs
-
-refusal-requires : tie.Need-refusal-requires
-refusal-requires c κs = search needs
 
 returns-2 : tie.Need-returns-2
 returns-2 c = did-as answered (forcePlace _) _ _ _ _ (c .before .before .before .before .said .given .1) (force-row _ _ _ _ _ (λ z. omega arith) (c .before .row-place .ensures) (c .answer2 .ensures))
@@ -42,12 +27,12 @@ pub forced-spec : {M : Type 1} → statement M
 forced-spec =
     tie.close
     (tie.spec
-    enum-known-said
-    answer-requires
+    (λ c. search needs)
+    (λ c κs. search needs)
     returns
     row-place-requires
-    answer-requires-2
-    enum-known-said-2
-    refusal-requires
+    (λ c κs. search needs)
+    (λ c. search needs)
+    (λ c κs. search needs)
     returns-2
     returns-3)

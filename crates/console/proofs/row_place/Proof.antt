@@ -8,12 +8,6 @@ use Rattle.scope.specs.Keeper.{rowAt}
 use Rattle.console.proofs.row_place.Statement.{statement}
 use Rattle.console.proofs.row_place.Tie as tie
 
-sub-row : tie.Need-sub-row
-sub-row c = search needs
-
-rem-row : tie.Need-rem-row
-rem-row c = search needs
-
 mul-result : tie.Need-mul-result
 mul-result c = omega (arith, mod-lt (c .args .n - 1) (c .pre .0))
 
@@ -25,4 +19,4 @@ unfolding rowAt
 returns c = refl
 
 pub row-place-spec : {M : Type 1} → statement M
-row-place-spec = tie.close (tie.spec sub-row rem-row mul-result add-result returns)
+row-place-spec = tie.close (tie.spec (λ c. search needs) (λ c. search needs) mul-result add-result returns)

@@ -7,36 +7,6 @@ use Rattle.console.specs.Made.{stepPlace}
 use Rattle.console.proofs.walked.Statement.{statement}
 use Rattle.console.proofs.walked.Tie as tie
 
-enum-known-said : tie.Need-enum-known-said
-enum-known-said c = search needs
-
-cast-answer : tie.Need-cast-answer
-cast-answer c = search needs
-
-cell-at-requires : tie.Need-cell-at-requires
-cell-at-requires c κs = search needs
-
-answer-requires : tie.Need-answer-requires
-answer-requires c κs = search needs
-
-enum-told : tie.Need-enum-told
-enum-told c = search needs
-
-answer-requires-2 : tie.Need-answer-requires-2
-answer-requires-2 c κs = search needs
-
-enum-told-2 : tie.Need-enum-told-2
-enum-told-2 c = search needs
-
-answer-requires-3 : tie.Need-answer-requires-3
-answer-requires-3 c κs = search needs
-
-enum-known-said-2 : tie.Need-enum-known-said-2
-enum-known-said-2 c = search needs
-
-refusal-requires : tie.Need-refusal-requires
-refusal-requires c κs = search needs
-
 returns : tie.Need-returns
 returns c = did-as stepped (stepPlace _) _ _ _ _ (c .before .before .before .said .given .1) (placed (cell (c .before .before .before .said .given .0 .0)) _ _ _ _ _ (c .before .cell-at .ensures) (c .answer .ensures))
 
@@ -53,16 +23,16 @@ pub walked-spec : {M : Type 1} → statement M
 walked-spec =
     tie.close
     (tie.spec
-    enum-known-said
-    cast-answer
-    cell-at-requires
-    answer-requires
-    enum-told
-    answer-requires-2
-    enum-told-2
-    answer-requires-3
-    enum-known-said-2
-    refusal-requires
+    (λ c. search needs)
+    (λ c. search needs)
+    (λ c κs. search needs)
+    (λ c κs. search needs)
+    (λ c. search needs)
+    (λ c κs. search needs)
+    (λ c. search needs)
+    (λ c κs. search needs)
+    (λ c. search needs)
+    (λ c κs. search needs)
     returns
     returns-2
     returns-3

@@ -5,23 +5,11 @@ use borrow.Author.Needs.{needs}
 use Rattle.counter.proofs.cell_to_order.Statement.{statement}
 use Rattle.counter.proofs.cell_to_order.Tie as tie
 
-span-refusal-requires : tie.Need-span-refusal-requires
-span-refusal-requires c κs = search needs
-
 returns : tie.Need-returns
 returns c = order-refused _ _ _ _ (c .before .span-refusal .ensures) (c .if1 .taken)
 
-table-view-requires : tie.Need-table-view-requires
-table-view-requires c κs = search needs
-
 best-in-requires : tie.Need-best-in-requires
 best-in-requires c κs = span-lent _ _ _ _ (c .before .before .span-refusal .ensures) (omega arith) _ (c .table-view .ensures)
-
-enum-known-best : tie.Need-enum-known-best
-enum-known-best c = search needs
-
-enum-told : tie.Need-enum-told
-enum-told c = search needs
 
 returns-2 : tie.Need-returns-2
 returns-2 c = order-cell _ _ _ _ (c .before .before .before .before .before .before .span-refusal .ensures) (omega arith) _ (c .before .before .before .before .table-view .ensures) _ (c .before .before .before .best-in .ensures) _ _ (c .before .best .given .1)
@@ -33,11 +21,11 @@ pub cell-to-order-spec : {M : Type 1} → statement M
 cell-to-order-spec =
     tie.close
     (tie.spec
-    span-refusal-requires
+    (λ c κs. search needs)
     returns
-    table-view-requires
+    (λ c κs. search needs)
     best-in-requires
-    enum-known-best
-    enum-told
+    (λ c. search needs)
+    (λ c. search needs)
     returns-2
     returns-3)

@@ -7,12 +7,6 @@ use Rattle.counter.proofs.counts.Tie as tie
 returns : tie.Need-returns
 returns c = counts-empty _ _ (c .if1 .taken)
 
-enum-told : tie.Need-enum-told
-enum-told c = search needs
-
-enum-known-sought : tie.Need-enum-known-sought
-enum-known-sought c = search needs
-
 returns-2 : tie.Need-returns-2
 returns-2 c = counts-any _ _ (c .enum-told .given .1) (c .before .before .if1 .left)
 
@@ -20,4 +14,4 @@ returns-3 : tie.Need-returns-3
 returns-3 c = counts-part _ _ _ (c .before .sought .given .1) (c .before .before .before .if1 .left)
 
 pub counts-spec : {M : Type 1} → statement M
-counts-spec = tie.close (tie.spec returns enum-told enum-known-sought returns-2 returns-3)
+counts-spec = tie.close (tie.spec returns (λ c. search needs) (λ c. search needs) returns-2 returns-3)

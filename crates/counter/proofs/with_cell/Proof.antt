@@ -5,17 +5,11 @@ use borrow.Author.Needs.{needs}
 use Rattle.counter.proofs.with_cell.Statement.{statement}
 use Rattle.counter.proofs.with_cell.Tie as tie
 
-counts-requires : tie.Need-counts-requires
-counts-requires c κs = search needs
-
 returns : tie.Need-returns
 returns c = cell-passed _ _ _ _ _ (c .before .counts .ensures) (c .if1 .left)
-
-better-requires : tie.Need-better-requires
-better-requires c κs = search needs
 
 returns-2 : tie.Need-returns-2
 returns-2 c = c .better .ensures ∙ cell-counted _ _ _ _ _ (c .before .before .counts .ensures) (c .before .if1 .taken)
 
 pub with-cell-spec : {M : Type 1} → statement M
-with-cell-spec = tie.close (tie.spec counts-requires returns better-requires returns-2)
+with-cell-spec = tie.close (tie.spec (λ c κs. search needs) returns (λ c κs. search needs) returns-2)

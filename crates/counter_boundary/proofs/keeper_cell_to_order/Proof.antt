@@ -6,15 +6,6 @@ use borrow.Author.Needs.{needs}
 use Rattle.counter_boundary.proofs.keeper_cell_to_order.Statement.{statement}
 use Rattle.counter_boundary.proofs.keeper_cell_to_order.Tie as tie
 
-cell-to-order-requires : tie.Need-cell-to-order-requires
-cell-to-order-requires c κs = search needs
-
-order-value-requires : tie.Need-order-value-requires
-order-value-requires c κs = search needs
-
-order-number-requires : tie.Need-order-number-requires
-order-number-requires c κs = search needs
-
 returns : tie.Need-returns
 returns c =
     let a = c .before .before .cell-to-order .ensures in
@@ -22,4 +13,4 @@ returns c =
 
 pub keeper-cell-to-order-spec : {M : Type 1} → statement M
 keeper-cell-to-order-spec =
-    tie.close (tie.spec cell-to-order-requires order-value-requires order-number-requires returns)
+    tie.close (tie.spec (λ c κs. search needs) (λ c κs. search needs) (λ c κs. search needs) returns)

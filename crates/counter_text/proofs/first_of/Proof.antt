@@ -7,8 +7,5 @@ use Rattle.counter_text.proofs.first_of.Tie as tie
 returns : tie.Need-returns
 returns c = first-refusal _ _ (c .if1 .taken)
 
-returns-2 : tie.Need-returns-2
-returns-2 c = search needs
-
 pub first-of-spec : {M : Type 1} → statement M
-first-of-spec = tie.close (tie.spec returns returns-2)
+first-of-spec = tie.close (tie.spec returns (λ c. search needs))

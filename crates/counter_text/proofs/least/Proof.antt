@@ -5,9 +5,6 @@ use borrow.Author.Needs.{needs}
 use Rattle.counter_text.proofs.least.Statement.{statement}
 use Rattle.counter_text.proofs.least.Tie as tie
 
-cast-result : tie.Need-cast-result
-cast-result c = search needs
-
 returns : tie.Need-returns
 returns c = least-same _ (omega arith)
 
@@ -15,4 +12,4 @@ returns-2 : tie.Need-returns-2
 returns-2 c = least-most _ (omega arith)
 
 pub least-spec : {M : Type 1} → statement M
-least-spec = tie.close (tie.spec cast-result returns returns-2)
+least-spec = tie.close (tie.spec (λ c. search needs) returns returns-2)

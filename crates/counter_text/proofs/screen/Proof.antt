@@ -5,30 +5,6 @@ use borrow.Author.Needs.{needs}
 use Rattle.counter_text.proofs.screen.Statement.{statement}
 use Rattle.counter_text.proofs.screen.Tie as tie
 
-asked-in-requires : tie.Need-asked-in-requires
-asked-in-requires c κs = search needs
-
-unit-of-requires : tie.Need-unit-of-requires
-unit-of-requires c κs = search needs
-
-span-refusal-requires : tie.Need-span-refusal-requires
-span-refusal-requires c κs = search needs
-
-recover-requires : tie.Need-recover-requires
-recover-requires c κs = search needs
-
-first-of-requires : tie.Need-first-of-requires
-first-of-requires c κs = search needs
-
-part-of-requires : tie.Need-part-of-requires
-part-of-requires c κs = search needs
-
-put-screen-requires : tie.Need-put-screen-requires
-put-screen-requires c κs = search needs
-
-same-length : tie.Need-same-length
-same-length c = search needs
-
 returns : tie.Need-returns
 returns c =
     let w = c .put-screen .ensures in
@@ -40,12 +16,12 @@ pub screen-spec : {M : Type 1} → statement M
 screen-spec =
     tie.close
     (tie.spec
-    asked-in-requires
-    unit-of-requires
-    span-refusal-requires
-    recover-requires
-    first-of-requires
-    part-of-requires
-    put-screen-requires
-    same-length
+    (λ c κs. search needs)
+    (λ c κs. search needs)
+    (λ c κs. search needs)
+    (λ c κs. search needs)
+    (λ c κs. search needs)
+    (λ c κs. search needs)
+    (λ c κs. search needs)
+    (λ c. search needs)
     returns)

@@ -27,12 +27,6 @@ shared-slice-read-with-digit c = omega arith
 with-digit-requires : tie.Need-with-digit-requires Inv-loop μ-loop
 with-digit-requires c κs = tt
 
-enum-known-more : tie.Need-enum-known-more Inv-loop μ-loop
-enum-known-more c = search needs
-
-enum-told : tie.Need-enum-told Inv-loop μ-loop
-enum-told c = search needs
-
 returns-2 : tie.Need-returns-2 Inv-loop μ-loop
 returns-2 c =
     let l = c .before .before .before .before .before .loop in
@@ -65,8 +59,8 @@ decimal-of-spec =
     loop-holds
     shared-slice-read-with-digit
     with-digit-requires
-    enum-known-more
-    enum-told
+    (λ c. search needs)
+    (λ c. search needs)
     returns-2
     add-i
     loop-less

@@ -8,18 +8,9 @@ use Rattle.lines.proofs.line_at.Tie as tie
 returns : tie.Need-returns
 returns c = no-line _ _ (omega arith)
 
-newline-requires : tie.Need-newline-requires
-newline-requires c κs = search needs
-
-line-end-requires : tie.Need-line-end-requires
-line-end-requires c κs = search needs
-
-next-line-requires : tie.Need-next-line-requires
-next-line-requires c κs = search needs
-
 returns-2 : tie.Need-returns-2
 returns-2 c = line-here _ _ (omega arith) _ _ _ (c .before .before .newline .ensures .0) (c .before .line-end .ensures) (c .next-line .ensures)
 
 pub line-at-spec : {M : Type 1} → statement M
 line-at-spec =
-    tie.close (tie.spec returns newline-requires line-end-requires next-line-requires returns-2)
+    tie.close (tie.spec returns (λ c κs. search needs) (λ c κs. search needs) (λ c κs. search needs) returns-2)

@@ -11,15 +11,6 @@ returns c = end-last _ _ _ (omega arith)
 returns-2 : tie.Need-returns-2
 returns-2 c = end-blank _ _ _ (omega arith)
 
-sub-if3 : tie.Need-sub-if3
-sub-if3 c = search needs
-
-shared-slice-read-if3 : tie.Need-shared-slice-read-if3
-shared-slice-read-if3 c = search needs
-
-sub-result : tie.Need-sub-result
-sub-result c = search needs
-
 returns-3 : tie.Need-returns-3
 returns-3 c = end-cr _ _ _ (omega arith) (omega arith) (omega arith)
 
@@ -29,4 +20,4 @@ returns-4 c = end-plain _ _ _ (omega arith) (omega arith) (c .if3 .left)
 pub line-end-spec : {M : Type 1} → statement M
 line-end-spec =
     tie.close
-    (tie.spec returns returns-2 sub-if3 shared-slice-read-if3 sub-result returns-3 returns-4)
+    (tie.spec returns returns-2 (λ c. search needs) (λ c. search needs) (λ c. search needs) returns-3 returns-4)

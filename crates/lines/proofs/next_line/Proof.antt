@@ -5,9 +5,6 @@ use borrow.Author.Needs.{needs}
 use Rattle.lines.proofs.next_line.Statement.{statement}
 use Rattle.lines.proofs.next_line.Tie as tie
 
-add-result : tie.Need-add-result
-add-result c = search needs
-
 returns : tie.Need-returns
 returns c = next-after _ _ (omega arith)
 
@@ -15,4 +12,4 @@ returns-2 : tie.Need-returns-2
 returns-2 c = next-none _ _ (omega arith)
 
 pub next-line-spec : {M : Type 1} → statement M
-next-line-spec = tie.close (tie.spec add-result returns returns-2)
+next-line-spec = tie.close (tie.spec (λ c. search needs) returns returns-2)

@@ -6,24 +6,6 @@ use borrow.Author.Needs.{needs}
 use Rattle.lines.proofs.nth_bytes.Statement.{statement}
 use Rattle.lines.proofs.nth_bytes.Tie as tie
 
-nth-line-requires : tie.Need-nth-line-requires
-nth-line-requires c κs = search needs
-
-enum-known-line : tie.Need-enum-known-line
-enum-known-line c = search needs
-
-enum-told : tie.Need-enum-told
-enum-told c = search needs
-
-sub-result : tie.Need-sub-result
-sub-result c = search needs
-
-part-result-start : tie.Need-part-result-start
-part-result-start c = search needs
-
-part-result-end : tie.Need-part-result-end
-part-result-end c = search needs
-
 returns : tie.Need-returns
 returns c = sym (ap (λ x. lineBytes x (c .before .before .before .before .before .args .s .now)) (sym (c .before .before .before .nth-line .ensures) ∙ c .before .enum-told .given .1))
 
@@ -42,12 +24,12 @@ pub nth-bytes-spec : {M : Type 1} → statement M
 nth-bytes-spec =
     tie.close
     (tie.spec
-    nth-line-requires
-    enum-known-line
-    enum-told
-    sub-result
-    part-result-start
-    part-result-end
+    (λ c κs. search needs)
+    (λ c. search needs)
+    (λ c. search needs)
+    (λ c. search needs)
+    (λ c. search needs)
+    (λ c. search needs)
     returns
     between-requires
     returns-2)

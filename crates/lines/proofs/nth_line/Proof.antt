@@ -20,12 +20,6 @@ loop-holds c = refl
 line-at-requires : tie.Need-line-at-requires Inv-loop μ-loop
 line-at-requires c κs = tt
 
-enum-known-line : tie.Need-enum-known-line Inv-loop μ-loop
-enum-known-line c = search needs
-
-enum-told : tie.Need-enum-told Inv-loop μ-loop
-enum-told c = search needs
-
 returns : tie.Need-returns Inv-loop μ-loop
 returns c =
     let l = c .before .before .before .before .loop in
@@ -58,8 +52,8 @@ nth-line-spec =
     μ-loop
     loop-holds
     line-at-requires
-    enum-known-line
-    enum-told
+    (λ c. search needs)
+    (λ c. search needs)
     returns
     sub-left
     loop-less

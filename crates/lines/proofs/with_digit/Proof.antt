@@ -14,23 +14,8 @@ returns-2 c = above-digits _ _ (omega arith)
 returns-3 : tie.Need-returns-3
 returns-3 c = past-64 _ _ (omega arith) (omega arith) (omega arith)
 
-cast-digit : tie.Need-cast-digit
-cast-digit c = search needs
-
-mul-if4 : tie.Need-mul-if4
-mul-if4 c = search needs
-
-sub-if4 : tie.Need-sub-if4
-sub-if4 c = search needs
-
 returns-4 : tie.Need-returns-4
 returns-4 c = past-64 _ _ (omega arith) (omega arith) (omega arith)
-
-mul-t6 : tie.Need-mul-t6
-mul-t6 c = search needs
-
-add-t7 : tie.Need-add-t7
-add-t7 c = search needs
 
 returns-5 : tie.Need-returns-5
 returns-5 c = one-digit _ _ (omega arith) (omega arith) (omega arith)
@@ -42,10 +27,10 @@ with-digit-spec =
     returns
     returns-2
     returns-3
-    cast-digit
-    mul-if4
-    sub-if4
+    (λ c. search needs)
+    (λ c. search needs)
+    (λ c. search needs)
     returns-4
-    mul-t6
-    add-t7
+    (λ c. search needs)
+    (λ c. search needs)
     returns-5)

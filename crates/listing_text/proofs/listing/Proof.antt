@@ -6,17 +6,8 @@ use borrow.Author.Needs.{needs}
 use Rattle.listing_text.proofs.listing.Statement.{statement}
 use Rattle.listing_text.proofs.listing.Tie as tie
 
-recover-requires : tie.Need-recover-requires
-recover-requires c κs = search needs
-
 put-outcome-requires : tie.Need-put-outcome-requires
 put-outcome-requires c κs = (c .before .before .before .before .before .before .before .before .pre, outcome-fits _ _ _ (c .before .before .before .before .recover .ensures) (omega (arith, c .before .before .before .before .recover .kept)))
-
-same-length : tie.Need-same-length
-same-length c = search needs
-
-same-length-2 : tie.Need-same-length-2
-same-length-2 c = search needs
 
 returns : tie.Need-returns
 returns c =
@@ -26,4 +17,4 @@ returns c =
 
 pub listing-spec : {M : Type 1} → statement M
 listing-spec =
-    tie.close (tie.spec recover-requires put-outcome-requires same-length same-length-2 returns)
+    tie.close (tie.spec (λ c κs. search needs) put-outcome-requires (λ c. search needs) (λ c. search needs) returns)

@@ -5,15 +5,6 @@ use borrow.Author.Needs.{needs}
 use Rattle.listing_text.proofs.put_outcome.Statement.{statement}
 use Rattle.listing_text.proofs.put_outcome.Tie as tie
 
-slice-aggregate-put-line : tie.Need-slice-aggregate-put-line
-slice-aggregate-put-line c = search needs
-
-put-line-requires : tie.Need-put-line-requires
-put-line-requires c κs = search needs
-
-same-length : tie.Need-same-length
-same-length c = search needs
-
 returns : tie.Need-returns
 returns c =
     let w = c .before .before .put-line in
@@ -26,9 +17,6 @@ put-table-requires c κs =
     let f = p .1 (omega arith) in
     (f .1, omega (arith, p .0, f .0))
 
-same-length-2 : tie.Need-same-length-2
-same-length-2 c = search needs
-
 returns-2 : tie.Need-returns-2
 returns-2 c =
     let p = c .before .before .before .before .before .before .before .before .pre in
@@ -40,10 +28,10 @@ pub put-outcome-spec : {M : Type 1} → statement M
 put-outcome-spec =
     tie.close
     (tie.spec
-    slice-aggregate-put-line
-    put-line-requires
-    same-length
+    (λ c. search needs)
+    (λ c κs. search needs)
+    (λ c. search needs)
     returns
     put-table-requires
-    same-length-2
+    (λ c. search needs)
     returns-2)

@@ -20,20 +20,8 @@ abbrev μ-loop : tie.MeasureT-loop
 loop-holds : tie.Need-loop-holds Inv-loop μ-loop
 loop-holds c = (omega arith, (refl, c .before .before .before .pre))
 
-mul-add-cell : tie.Need-mul-add-cell Inv-loop μ-loop
-mul-add-cell c = search needs
-
-shared-slice-read-add-cell : tie.Need-shared-slice-read-add-cell Inv-loop μ-loop
-shared-slice-read-add-cell c = search needs
-
 add-cell-requires : tie.Need-add-cell-requires Inv-loop μ-loop
 add-cell-requires c κs = c .before .before .before .before .loop .inv .1 .1
-
-add-i : tie.Need-add-i Inv-loop μ-loop
-add-i c = search needs
-
-loop-less : tie.Need-loop-less Inv-loop μ-loop
-loop-less c = search needs
 
 loop-again : tie.Need-loop-again Inv-loop μ-loop
 loop-again c = (omega arith, (cells-again _ _ _ _ (c .before .before .before .before .before .before .before .before .before .loop .inv .1 .0) (omega arith) _ (c .before .before .before .before .add-cell .ensures .same), c .before .before .before .before .add-cell .ensures .sized))
@@ -54,11 +42,11 @@ add-cells-spec =
     Inv-loop
     μ-loop
     loop-holds
-    mul-add-cell
-    shared-slice-read-add-cell
+    (λ c. search needs)
+    (λ c. search needs)
     add-cell-requires
-    add-i
-    loop-less
+    (λ c. search needs)
+    (λ c. search needs)
     loop-again
     same-length
     same-length-2

@@ -8,9 +8,6 @@ use borrow.Author.Needs.{needs}
 use Rattle.months.proofs.add_medium.Statement.{statement}
 use Rattle.months.proofs.add_medium.Tie as tie
 
-head-number-requires : tie.Need-head-number-requires
-head-number-requires c κs = search needs
-
 array-borrow-prefix-current : tie.Need-array-borrow-prefix-current
 array-borrow-prefix-current c = let h = head-numbers-fit (c .before .before .before .before .args .medium .now) in omega (arith, c .head-number .ensures)
 
@@ -23,23 +20,14 @@ add-recovered-requires c κs =
     let n = c .before .before .before .head-number in
     (zeroed m (n .result) (32 * headNumber 4 m) (n .ensures) refl .current-zero, c .before .before .before .before .before .before .before .pre)
 
-same-length : tie.Need-same-length
-same-length c = search needs
-
-same-length-2 : tie.Need-same-length-2
-same-length-2 c = search needs
-
-returns : tie.Need-returns
-returns c = search needs
-
 pub add-medium-spec : {M : Type 1} → statement M
 add-medium-spec =
     tie.close
     (tie.spec
-    head-number-requires
+    (λ c κs. search needs)
     array-borrow-prefix-current
     slice-aggregate-add-recovered
     add-recovered-requires
-    same-length
-    same-length-2
-    returns)
+    (λ c. search needs)
+    (λ c. search needs)
+    (λ c. search needs))

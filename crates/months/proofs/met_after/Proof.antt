@@ -8,11 +8,8 @@ use Rattle.months.proofs.met_after.Tie as tie
 returns : tie.Need-returns
 returns c = met-stays _ _ (omega arith)
 
-add-result : tie.Need-add-result
-add-result c = search needs
-
 returns-2 : tie.Need-returns-2
 returns-2 c = met-grows _ _ (omega arith)
 
 pub met-after-spec : {M : Type 1} → statement M
-met-after-spec = tie.close (tie.spec returns add-result returns-2)
+met-after-spec = tie.close (tie.spec returns (λ c. search needs) returns-2)

@@ -5,12 +5,6 @@ use mathlib.Core.Path.{_∙_}
 use Rattle.orders.proofs.numbered.Statement.{statement}
 use Rattle.orders.proofs.numbered.Tie as tie
 
-read-number-requires : tie.Need-read-number-requires
-read-number-requires c κs = search needs
-
-plain-requires : tie.Need-plain-requires
-plain-requires c κs = search needs
-
 returns : tie.Need-returns
 returns c = c .plain .ensures ∙ number-bad _ _ _ _ (c .before .before .read-number .ensures) (c .before .if1 .taken)
 
@@ -18,4 +12,4 @@ returns-2 : tie.Need-returns-2
 returns-2 c = number-good _ _ _ _ (c .before .read-number .ensures) (c .if1 .left)
 
 pub numbered-spec : {M : Type 1} → statement M
-numbered-spec = tie.close (tie.spec read-number-requires plain-requires returns returns-2)
+numbered-spec = tie.close (tie.spec (λ c κs. search needs) (λ c κs. search needs) returns returns-2)

@@ -5,24 +5,12 @@ use Rattle.words.proofs.Digits.{number-small}
 use Rattle.orders.proofs.read_number.Statement.{statement}
 use Rattle.orders.proofs.read_number.Tie as tie
 
-number-requires : tie.Need-number-requires
-number-requires c κs = search needs
-
-enum-known-x : tie.Need-enum-known-x
-enum-known-x c = search needs
-
-enum-told : tie.Need-enum-told
-enum-told c = search needs
-
 returns : tie.Need-returns
 returns c = read-not _ _ (c .before .before .number .ensures) (c .enum-told .given .1)
-
-cast-t6 : tie.Need-cast-t6
-cast-t6 c = search needs
 
 returns-2 : tie.Need-returns-2
 returns-2 c = read-is _ _ _ (number-small _ _ _) (c .before .before .before .number .ensures) (c .before .x .given .1)
 
 pub read-number-spec : {M : Type 1} → statement M
 read-number-spec =
-    tie.close (tie.spec number-requires enum-known-x enum-told returns cast-t6 returns-2)
+    tie.close (tie.spec (λ c κs. search needs) (λ c. search needs) (λ c. search needs) returns (λ c. search needs) returns-2)

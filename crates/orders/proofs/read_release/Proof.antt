@@ -5,24 +5,12 @@ use Rattle.words.proofs.Digits.{release-small}
 use Rattle.orders.proofs.read_release.Statement.{statement}
 use Rattle.orders.proofs.read_release.Tie as tie
 
-release-requires : tie.Need-release-requires
-release-requires c κs = search needs
-
-enum-known-x : tie.Need-enum-known-x
-enum-known-x c = search needs
-
-enum-told : tie.Need-enum-told
-enum-told c = search needs
-
 returns : tie.Need-returns
 returns c = read-not _ _ (c .before .before .release .ensures) (c .enum-told .given .1)
-
-cast-t6 : tie.Need-cast-t6
-cast-t6 c = search needs
 
 returns-2 : tie.Need-returns-2
 returns-2 c = read-is _ _ _ (release-small _ _ _) (c .before .before .before .release .ensures) (c .before .x .given .1)
 
 pub read-release-spec : {M : Type 1} → statement M
 read-release-spec =
-    tie.close (tie.spec release-requires enum-known-x enum-told returns cast-t6 returns-2)
+    tie.close (tie.spec (λ c κs. search needs) (λ c. search needs) (λ c. search needs) returns (λ c. search needs) returns-2)

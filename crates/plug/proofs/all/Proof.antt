@@ -13,26 +13,11 @@ Inv-loop tried book₀ i₀ book i = length book ≡ length book₀
 abbrev μ-loop : tie.MeasureT-loop
 μ-loop tried book₀ i₀ book i = tried - i
 
-loop-holds : tie.Need-loop-holds Inv-loop μ-loop
-loop-holds c = search needs
-
-one-requires : tie.Need-one-requires Inv-loop μ-loop
-one-requires c κs = search needs
-
 add-i : tie.Need-add-i Inv-loop μ-loop
 add-i c = omega arith
 
 loop-less : tie.Need-loop-less Inv-loop μ-loop
 loop-less c = omega arith
-
-loop-again : tie.Need-loop-again Inv-loop μ-loop
-loop-again c = search needs
-
-same-length : tie.Need-same-length Inv-loop μ-loop
-same-length c = search needs
-
-returns : tie.Need-returns Inv-loop μ-loop
-returns c = search needs
 
 pub all-spec : {M : Type 1} → statement M
 all-spec =
@@ -40,10 +25,10 @@ all-spec =
     (tie.spec
     Inv-loop
     μ-loop
-    loop-holds
-    one-requires
+    (λ c. search needs)
+    (λ c κs. search needs)
     add-i
     loop-less
-    loop-again
-    same-length
-    returns)
+    (λ c. search needs)
+    (λ c. search needs)
+    (λ c. search needs))

@@ -13,29 +13,11 @@ Inv-loop medium cells slots book₀ made k₀ book k = length book ≡ length bo
 abbrev μ-loop : tie.MeasureT-loop
 μ-loop medium cells slots book₀ made k₀ book k = made - k
 
-cut-requires : tie.Need-cut-requires Inv-loop μ-loop
-cut-requires c κs = search needs
-
-loop-holds : tie.Need-loop-holds Inv-loop μ-loop
-loop-holds c = search needs
-
 add-k : tie.Need-add-k Inv-loop μ-loop
 add-k c = omega arith
 
-cut-requires-2 : tie.Need-cut-requires-2 Inv-loop μ-loop
-cut-requires-2 c κs = search needs
-
 loop-less : tie.Need-loop-less Inv-loop μ-loop
 loop-less c = omega arith
-
-loop-again : tie.Need-loop-again Inv-loop μ-loop
-loop-again c = search needs
-
-same-length : tie.Need-same-length Inv-loop μ-loop
-same-length c = search needs
-
-returns : tie.Need-returns Inv-loop μ-loop
-returns c = search needs
 
 pub pull-spec : {M : Type 1} → statement M
 pull-spec =
@@ -43,11 +25,11 @@ pull-spec =
     (tie.spec
     Inv-loop
     μ-loop
-    cut-requires
-    loop-holds
+    (λ c κs. search needs)
+    (λ c. search needs)
     add-k
-    cut-requires-2
+    (λ c κs. search needs)
     loop-less
-    loop-again
-    same-length
-    returns)
+    (λ c. search needs)
+    (λ c. search needs)
+    (λ c. search needs))

@@ -13,38 +13,11 @@ Inv-loop medium₀ current slots most book₀ state₀ made₀ medium book state
 abbrev μ-loop : tie.MeasureT-loop
 μ-loop medium₀ current slots most book₀ state₀ made₀ medium book state made = most - made
 
-loop-holds : tie.Need-loop-holds Inv-loop μ-loop
-loop-holds c = search needs
-
-step-requires : tie.Need-step-requires Inv-loop μ-loop
-step-requires c κs = search needs
-
-same-length : tie.Need-same-length Inv-loop μ-loop
-same-length c = search needs
-
-same-length-2 : tie.Need-same-length-2 Inv-loop μ-loop
-same-length-2 c = search needs
-
-returns : tie.Need-returns Inv-loop μ-loop
-returns c = search needs
-
 add-made : tie.Need-add-made Inv-loop μ-loop
 add-made c = omega arith
 
 loop-less : tie.Need-loop-less Inv-loop μ-loop
 loop-less c = omega arith
-
-loop-again : tie.Need-loop-again Inv-loop μ-loop
-loop-again c = search needs
-
-same-length-3 : tie.Need-same-length-3 Inv-loop μ-loop
-same-length-3 c = search needs
-
-same-length-4 : tie.Need-same-length-4 Inv-loop μ-loop
-same-length-4 c = search needs
-
-returns-2 : tie.Need-returns-2 Inv-loop μ-loop
-returns-2 c = search needs
 
 pub steps-spec : {M : Type 1} → statement M
 steps-spec =
@@ -52,14 +25,14 @@ steps-spec =
     (tie.spec
     Inv-loop
     μ-loop
-    loop-holds
-    step-requires
-    same-length
-    same-length-2
-    returns
+    (λ c. search needs)
+    (λ c κs. search needs)
+    (λ c. search needs)
+    (λ c. search needs)
+    (λ c. search needs)
     add-made
     loop-less
-    loop-again
-    same-length-3
-    same-length-4
-    returns-2)
+    (λ c. search needs)
+    (λ c. search needs)
+    (λ c. search needs)
+    (λ c. search needs))

@@ -6,26 +6,11 @@ use borrow.Author.Needs.{needs}
 use Rattle.reasons.proofs.decide.Statement.{statement}
 use Rattle.reasons.proofs.decide.Tie as tie
 
-head-ok-requires : tie.Need-head-ok-requires
-head-ok-requires c κs = search needs
-
-begun-requires : tie.Need-begun-requires
-begun-requires c κs = search needs
-
-undone-requires : tie.Need-undone-requires
-undone-requires c κs = search needs
-
 returns : tie.Need-returns
 returns c = why-none _ _ _ _ (c .undone .ensures) _ (c .before .before .before .head-ok .ensures) (c .before .before .if1 .left) (c .before .begun .ensures)
 
 get4-requires : tie.Need-get4-requires
 get4-requires c κs = let h = head-fits _ _ (c .before .head-ok .ensures) (c .if1 .taken) in omega (arith, h .long)
-
-tell-all-requires : tie.Need-tell-all-requires
-tell-all-requires c κs = search needs
-
-undone-requires-2 : tie.Need-undone-requires-2
-undone-requires-2 c κs = search needs
 
 returns-2 : tie.Need-returns-2
 returns-2 c = why-all _ _ _ _ (c .undone2 .ensures) _ (c .before .before .get4 .ensures) (c .before .tell-all .ensures)
@@ -34,11 +19,11 @@ pub decide-spec : {M : Type 1} → statement M
 decide-spec =
     tie.close
     (tie.spec
-    head-ok-requires
-    begun-requires
-    undone-requires
+    (λ c κs. search needs)
+    (λ c κs. search needs)
+    (λ c κs. search needs)
     returns
     get4-requires
-    tell-all-requires
-    undone-requires-2
+    (λ c κs. search needs)
+    (λ c κs. search needs)
     returns-2)

@@ -4,26 +4,8 @@ use borrow.Author.Needs.{needs}
 use Rattle.reasons.proofs.tell.Statement.{statement}
 use Rattle.reasons.proofs.tell.Tie as tie
 
-enum-known-what : tie.Need-enum-known-what
-enum-known-what c = search needs
-
 returns : tie.Need-returns
 returns c = told-other _ _ _ _ _ _ _ (c .before .before .what .given .1) (c .if1 .taken)
-
-first-mark-requires : tie.Need-first-mark-requires
-first-mark-requires c κs = search needs
-
-enum-told : tie.Need-enum-told
-enum-told c = search needs
-
-committed-requires : tie.Need-committed-requires
-committed-requires c κs = search needs
-
-enum-told-2 : tie.Need-enum-told-2
-enum-told-2 c = search needs
-
-undone-requires : tie.Need-undone-requires
-undone-requires c κs = search needs
 
 returns-2 : tie.Need-returns-2
 returns-2 c = told-this _ _ _ _ _ _ _ (c .before .before .before .before .what .given .1) (c .before .before .if1 .left) _ (c .first-mark .ensures)
@@ -38,13 +20,13 @@ pub tell-spec : {M : Type 1} → statement M
 tell-spec =
     tie.close
     (tie.spec
-    enum-known-what
+    (λ c. search needs)
     returns
-    first-mark-requires
-    enum-told
-    committed-requires
-    enum-told-2
-    undone-requires
+    (λ c κs. search needs)
+    (λ c. search needs)
+    (λ c κs. search needs)
+    (λ c. search needs)
+    (λ c κs. search needs)
     returns-2
     returns-3
     returns-4)

@@ -19,23 +19,11 @@ Inv-loop medium h cell t₀ n₀ t n =
 abbrev μ-loop : tie.MeasureT-loop
 μ-loop medium h cell t₀ n₀ t n = atMost (numberAt 4 4 medium) h - (n - h)
 
-begun-requires : tie.Need-begun-requires Inv-loop μ-loop
-begun-requires c κs = search needs
-
 loop-holds : tie.Need-loop-holds Inv-loop μ-loop
 loop-holds c = tale-starts _ _ _ (c .before .before .pre) _ (c .begun .ensures)
 
-after-requires : tie.Need-after-requires Inv-loop μ-loop
-after-requires c κs = search needs
-
-enum-known-seen : tie.Need-enum-known-seen Inv-loop μ-loop
-enum-known-seen c = search needs
-
 returns : tie.Need-returns Inv-loop μ-loop
 returns c = tale-ends _ _ _ (c .before .before .before .before .before .pre) _ _ _ (c .before .before .loop .inv) (c .before .after .result) (c .before .after .ensures) (c .match .keys2)
-
-tell-requires : tie.Need-tell-requires Inv-loop μ-loop
-tell-requires c κs = search needs
 
 loop-less : tie.Need-loop-less Inv-loop μ-loop
 loop-less c =
@@ -53,11 +41,11 @@ tell-all-spec =
     (tie.spec
     Inv-loop
     μ-loop
-    begun-requires
+    (λ c κs. search needs)
     loop-holds
-    after-requires
-    enum-known-seen
+    (λ c κs. search needs)
+    (λ c. search needs)
     returns
-    tell-requires
+    (λ c κs. search needs)
     loop-less
     loop-again)

@@ -7,12 +7,6 @@ use borrow.Author.Needs.{needs}
 use Rattle.recovered.proofs.recover.Statement.{statement}
 use Rattle.recovered.proofs.recover.Tie as tie
 
-head-number-requires : tie.Need-head-number-requires
-head-number-requires c κs = search needs
-
-head-number-requires-2 : tie.Need-head-number-requires-2
-head-number-requires-2 c κs = search needs
-
 mul-rows : tie.Need-mul-rows
 mul-rows c = let h = head-numbers-fit (c .before .before .before .before .before .args .medium .now) in omega (arith, c .head-number2 .ensures)
 
@@ -31,23 +25,17 @@ slice-aggregate-recover-with-2 c = length-zeros _ 32768 (let h = head-numbers-fi
 recover-with-requires : tie.Need-recover-with-requires
 recover-with-requires c κs = zeroed (c .before .before .before .before .before .before .before .before .args .medium .now) (c .before .before .before .before .before .head-number .result) (32 * c .before .before .before .head-number2 .result) (c .before .before .before .before .before .head-number .ensures) (ap (λ x. 32 * x) (c .before .before .before .head-number2 .ensures))
 
-same-length : tie.Need-same-length
-same-length c = search needs
-
-returns : tie.Need-returns
-returns c = search needs
-
 pub recover-spec : {M : Type 1} → statement M
 recover-spec =
     tie.close
     (tie.spec
-    head-number-requires
-    head-number-requires-2
+    (λ c κs. search needs)
+    (λ c κs. search needs)
     mul-rows
     array-borrow-prefix-current
     slice-aggregate-recover-with
     array-share-prefix-waiting
     slice-aggregate-recover-with-2
     recover-with-requires
-    same-length
-    returns)
+    (λ c. search needs)
+    (λ c. search needs))

@@ -18,21 +18,6 @@ array-borrow-prefix-last c = zeroed-fits _ _ _ (c .before .before .before .befor
 slice-aggregate-recovery-start-2 : tie.Need-slice-aggregate-recovery-start-2
 slice-aggregate-recovery-start-2 c = length-zeros _ 1024 (zeroed-fits _ _ _ (c .before .before .before .before .before .before .before .pre))
 
-recovery-start-requires : tie.Need-recovery-start-requires
-recovery-start-requires c κs = search needs
-
-add-settle : tie.Need-add-settle
-add-settle c = search needs
-
-settle-requires : tie.Need-settle-requires
-settle-requires c κs = search needs
-
-same-length : tie.Need-same-length
-same-length c = search needs
-
-same-length-2 : tie.Need-same-length-2
-same-length-2 c = search needs
-
 returns : tie.Need-returns
 returns c =
     let a = c .before .before .before .before .before .before .before .before .before .before .before .before .before .before .before .before .before .args in
@@ -50,9 +35,9 @@ recover-with-spec =
     slice-aggregate-recovery-start
     array-borrow-prefix-last
     slice-aggregate-recovery-start-2
-    recovery-start-requires
-    add-settle
-    settle-requires
-    same-length
-    same-length-2
+    (λ c κs. search needs)
+    (λ c. search needs)
+    (λ c κs. search needs)
+    (λ c. search needs)
+    (λ c. search needs)
     returns)

@@ -29,9 +29,6 @@ recovery-step-requires c κs = tt
 sub-left : tie.Need-sub-left Inv-loop μ-loop
 sub-left c = omega arith
 
-enum-told : tie.Need-enum-told Inv-loop μ-loop
-enum-told c = search needs
-
 loop-less : tie.Need-loop-less Inv-loop μ-loop
 loop-less c = omega arith
 
@@ -67,7 +64,7 @@ settle-spec =
     loop-holds
     recovery-step-requires
     sub-left
-    enum-told
+    (λ c. search needs)
     loop-less
     loop-again
     same-length

@@ -10,32 +10,11 @@ use Rattle.text.proofs.put_cell.Tie as tie
 returns : tie.Need-returns
 returns c = cell-empty _ _ _ _ (omega arith)
 
-slice-aggregate-put-line : tie.Need-slice-aggregate-put-line
-slice-aggregate-put-line c = search needs
-
-put-line-requires : tie.Need-put-line-requires
-put-line-requires c κs = search needs
-
-slice-aggregate-put-line-2 : tie.Need-slice-aggregate-put-line-2
-slice-aggregate-put-line-2 c = search needs
-
-cast-put-line : tie.Need-cast-put-line
-cast-put-line c = search needs
-
 put-line-requires-2 : tie.Need-put-line-requires-2
 put-line-requires-2 c κs = omega (arith, length-line cellKey (c .before .before .before .before .before .before .before .before .before .args .cell), c .before .before .before .before .put-line .ensures .end)
 
-cast-major : tie.Need-cast-major
-cast-major c = search needs
-
-cast-minor : tie.Need-cast-minor
-cast-minor c = search needs
-
 put-release-requires : tie.Need-put-release-requires
 put-release-requires c κs = omega (arith, length-line cellKey (c .before .before .before .before .before .before .before .before .before .before .before .before .before .args .cell), length-line partKey (c .before .before .before .before .before .before .before .before .before .before .before .before .before .args .value % 4294967296), c .before .before .before .before .before .before .before .before .put-line .ensures .end, c .before .before .before .put-line2 .ensures .end)
-
-same-length : tie.Need-same-length
-same-length c = search needs
 
 returns-2 : tie.Need-returns-2
 returns-2 c = cell-full (c .before .before .before .before .before .before .before .before .before .before .before .before .before .before .before .before .args .cell) (c .before .before .before .before .before .before .before .before .before .before .before .before .before .before .before .before .args .value) (omega arith) (c .before .before .before .before .before .before .before .before .before .before .before .put-line .ensures) (c .before .before .before .before .before .before .put-line2 .ensures) (c .before .before .put-release .ensures) (omega arith)
@@ -45,13 +24,13 @@ put-cell-spec =
     tie.close
     (tie.spec
     returns
-    slice-aggregate-put-line
-    put-line-requires
-    slice-aggregate-put-line-2
-    cast-put-line
+    (λ c. search needs)
+    (λ c κs. search needs)
+    (λ c. search needs)
+    (λ c. search needs)
     put-line-requires-2
-    cast-major
-    cast-minor
+    (λ c. search needs)
+    (λ c. search needs)
     put-release-requires
-    same-length
+    (λ c. search needs)
     returns-2)

@@ -4,17 +4,8 @@ use Rattle.text.proofs.Writing.{wrote-line}
 use Rattle.text.proofs.put_line.Statement.{statement}
 use Rattle.text.proofs.put_line.Tie as tie
 
-put-bytes-requires : tie.Need-put-bytes-requires
-put-bytes-requires c κs = search needs
-
-put-decimal-requires : tie.Need-put-decimal-requires
-put-decimal-requires c κs = search needs
-
-same-length : tie.Need-same-length
-same-length c = search needs
-
 returns : tie.Need-returns
 returns c = wrote-line (c .before .before .before .before .before .before .before .before .before .before .args .n) (c .before .before .before .before .before .before .put-bytes .ensures) (c .before .before .put-decimal .ensures) (c .before .before .before .before .before .before .before .before .before .before .pre)
 
 pub put-line-spec : {M : Type 1} → statement M
-put-line-spec = tie.close (tie.spec put-bytes-requires put-decimal-requires same-length returns)
+put-line-spec = tie.close (tie.spec (λ c κs. search needs) (λ c κs. search needs) (λ c. search needs) returns)

@@ -4,17 +4,8 @@ use Rattle.text.proofs.Writing.{wrote-line64}
 use Rattle.text.proofs.put_line64.Statement.{statement}
 use Rattle.text.proofs.put_line64.Tie as tie
 
-put-bytes-requires : tie.Need-put-bytes-requires
-put-bytes-requires c κs = search needs
-
-put-decimal64-requires : tie.Need-put-decimal64-requires
-put-decimal64-requires c κs = search needs
-
-same-length : tie.Need-same-length
-same-length c = search needs
-
 returns : tie.Need-returns
 returns c = wrote-line64 (c .before .before .before .before .before .before .before .before .before .before .args .n) (c .before .before .before .before .before .before .put-bytes .ensures) (c .before .before .put-decimal64 .ensures) (c .before .before .before .before .before .before .before .before .before .before .pre)
 
 pub put-line64-spec : {M : Type 1} → statement M
-put-line64-spec = tie.close (tie.spec put-bytes-requires put-decimal64-requires same-length returns)
+put-line64-spec = tie.close (tie.spec (λ c κs. search needs) (λ c κs. search needs) (λ c. search needs) returns)

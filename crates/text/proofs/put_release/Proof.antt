@@ -5,20 +5,8 @@ use Rattle.text.proofs.Writing.{length-ended, wrote-release}
 use Rattle.text.proofs.put_release.Statement.{statement}
 use Rattle.text.proofs.put_release.Tie as tie
 
-slice-aggregate-put-bytes : tie.Need-slice-aggregate-put-bytes
-slice-aggregate-put-bytes c = search needs
-
-put-bytes-requires : tie.Need-put-bytes-requires
-put-bytes-requires c κs = search needs
-
-put-decimal-requires : tie.Need-put-decimal-requires
-put-decimal-requires c κs = search needs
-
 put-decimal-requires-2 : tie.Need-put-decimal-requires-2
 put-decimal-requires-2 c κs = omega (arith, length-ended (c .before .before .before .before .before .before .before .before .before .before .before .args .major) 46, c .before .before .before .put-decimal .ensures .end, c .before .before .before .before .before .before .before .put-bytes .ensures .end)
-
-same-length : tie.Need-same-length
-same-length c = search needs
 
 returns : tie.Need-returns
 returns c =
@@ -29,9 +17,9 @@ pub put-release-spec : {M : Type 1} → statement M
 put-release-spec =
     tie.close
     (tie.spec
-    slice-aggregate-put-bytes
-    put-bytes-requires
-    put-decimal-requires
+    (λ c. search needs)
+    (λ c κs. search needs)
+    (λ c κs. search needs)
     put-decimal-requires-2
-    same-length
+    (λ c. search needs)
     returns)

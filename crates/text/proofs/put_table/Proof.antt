@@ -8,29 +8,14 @@ use Rattle.text.specs.Text.{cellsKey, slotsKey, headKey}
 use Rattle.text.proofs.put_table.Statement.{statement}
 use Rattle.text.proofs.put_table.Tie as tie
 
-slice-aggregate-put-line : tie.Need-slice-aggregate-put-line
-slice-aggregate-put-line c = search needs
-
-put-line-requires : tie.Need-put-line-requires
-put-line-requires c κs = search needs
-
-slice-aggregate-put-line-2 : tie.Need-slice-aggregate-put-line-2
-slice-aggregate-put-line-2 c = search needs
-
 put-line-requires-2 : tie.Need-put-line-requires-2
 put-line-requires-2 c κs = omega (arith, length-line cellsKey (c .before .before .before .before .before .before .before .before .before .args .cells), c .before .before .before .before .put-line .ensures .end)
-
-slice-aggregate-put-line-3 : tie.Need-slice-aggregate-put-line-3
-slice-aggregate-put-line-3 c = search needs
 
 put-line-requires-3 : tie.Need-put-line-requires-3
 put-line-requires-3 c κs = omega (arith, length-line cellsKey (c .before .before .before .before .before .before .before .before .before .before .before .before .before .before .args .cells), length-line slotsKey (c .before .before .before .before .before .before .before .before .before .before .before .before .before .before .args .slots), c .before .before .before .before .before .before .before .before .before .put-line .ensures .end, c .before .before .before .before .put-line2 .ensures .end)
 
 put-cells-requires : tie.Need-put-cells-requires
 put-cells-requires c κs = (omega arith, omega (arith, length-line cellsKey (c .before .before .before .before .before .before .before .before .before .before .before .before .before .before .before .before .before .before .args .cells), length-line slotsKey (c .before .before .before .before .before .before .before .before .before .before .before .before .before .before .before .before .before .before .args .slots), length-line headKey (c .before .before .before .before .before .before .before .before .before .before .before .before .before .before .before .before .before .before .args .h), c .before .before .before .before .before .before .before .before .before .before .before .before .before .put-line .ensures .end, c .before .before .before .before .before .before .before .before .put-line2 .ensures .end, c .before .before .before .put-line3 .ensures .end))
-
-same-length : tie.Need-same-length
-same-length c = search needs
 
 returns : tie.Need-returns
 returns c =
@@ -42,12 +27,12 @@ pub put-table-spec : {M : Type 1} → statement M
 put-table-spec =
     tie.close
     (tie.spec
-    slice-aggregate-put-line
-    put-line-requires
-    slice-aggregate-put-line-2
+    (λ c. search needs)
+    (λ c κs. search needs)
+    (λ c. search needs)
     put-line-requires-2
-    slice-aggregate-put-line-3
+    (λ c. search needs)
     put-line-requires-3
     put-cells-requires
-    same-length
+    (λ c. search needs)
     returns)

@@ -21,12 +21,6 @@ abbrev μ-loop : tie.MeasureT-loop
 loop-holds : tie.Need-loop-holds Inv-loop μ-loop
 loop-holds c = (omega (arith, c .before .pre .0), last-starts _ (c .before .pre .1) _ (c .before .pre .0))
 
-after-requires : tie.Need-after-requires Inv-loop μ-loop
-after-requires c κs = search needs
-
-enum-known-seen : tie.Need-enum-known-seen Inv-loop μ-loop
-enum-known-seen c = search needs
-
 loop-less : tie.Need-loop-less Inv-loop μ-loop
 loop-less c =
     let w = last-counts _ (c .before .before .before .before .before .before .pre .1) _ _ (c .before .before .before .before .loop .inv .0) (c .before .before .before .before .loop .inv .1) _ (c .before .before .before .after .ensures) _ _ (c .before .seen .given .1) in
@@ -37,17 +31,11 @@ loop-again c =
     let w = last-counts _ (c .before .before .before .before .before .before .pre .1) _ _ (c .before .before .before .before .loop .inv .0) (c .before .before .before .before .loop .inv .1) _ (c .before .before .before .after .ensures) _ _ (c .before .seen .given .1) in
     (omega (arith, w .0, w .1), last-again _ (c .before .before .before .before .before .before .pre .1) _ _ (c .before .before .before .before .loop .inv .0) (c .before .before .before .before .loop .inv .1) _ (c .before .before .before .after .ensures) _ _ (c .before .seen .given .1))
 
-enum-told : tie.Need-enum-told Inv-loop μ-loop
-enum-told c = search needs
-
 returns : tie.Need-returns Inv-loop μ-loop
 returns c =
     let m = c .before .before .before .before .before .args .medium .now in
     last-malformed _ (c .before .before .before .before .before .pre .1) _ _ (c .before .before .before .loop .inv .0) (c .before .before .before .loop .inv .1) _ (c .before .before .after .ensures) (c .enum-told .given .1)
     ∙ sym (ap (λ x. lastOf x (journal (numberAt 4 0 m) (numberAt 4 4 m) x m)) (c .before .before .before .before .before .pre .0))
-
-enum-told-2 : tie.Need-enum-told-2 Inv-loop μ-loop
-enum-told-2 c = search needs
 
 returns-2 : tie.Need-returns-2 Inv-loop μ-loop
 returns-2 c =
@@ -62,11 +50,11 @@ last-met-spec =
     Inv-loop
     μ-loop
     loop-holds
-    after-requires
-    enum-known-seen
+    (λ c κs. search needs)
+    (λ c. search needs)
     loop-less
     loop-again
-    enum-told
+    (λ c. search needs)
     returns
-    enum-told-2
+    (λ c. search needs)
     returns-2)

@@ -7,9 +7,6 @@ use borrow.Author.Needs.{needs}
 use Rattle.values.proofs.values.Statement.{statement}
 use Rattle.values.proofs.values.Tie as tie
 
-head-ok-requires : tie.Need-head-ok-requires
-head-ok-requires c κs = search needs
-
 returns : tie.Need-returns
 returns c = values-headless _ _ (c .before .head-ok .ensures) (c .if1 .left) _
 
@@ -24,12 +21,6 @@ get4-requires-3 c κs = let h = head-fits _ _ (c .before .before .before .head-o
 
 last-met-requires : tie.Need-last-met-requires
 last-met-requires c κs = (c .get43 .ensures, sym (c .before .before .before .before .head-ok .ensures) ∙ c .before .before .before .if1 .taken)
-
-enum-known-counted : tie.Need-enum-known-counted
-enum-known-counted c = search needs
-
-enum-told : tie.Need-enum-told
-enum-told c = search needs
 
 returns-2 : tie.Need-returns-2
 returns-2 c = values-malformed _ _ (c .before .before .before .before .before .before .before .head-ok .ensures) (c .before .before .before .before .before .before .if1 .taken) _ _ _ (c .before .before .before .before .before .get4 .ensures) (c .before .before .before .before .get42 .ensures) (c .before .before .before .get43 .ensures) _ (c .before .before .last-met .ensures) (c .enum-told .given .1) _
@@ -47,9 +38,6 @@ replay-requires c κs =
     let u = values-upto _ _ (c .before .before .before .before .before .before .before .before .before .before .before .before .before .head-ok .ensures) (c .before .before .before .before .before .before .before .before .before .before .before .before .if1 .taken) _ _ _ (c .before .before .before .before .before .before .before .before .before .before .before .get4 .ensures) (c .before .before .before .before .before .before .before .before .before .before .get42 .ensures) (c .before .before .before .before .before .before .before .before .before .get43 .ensures) _ (c .before .before .before .before .before .before .before .before .last-met .ensures) _ (c .before .before .before .before .before .before .counted .given .1) (omega arith) in
     (record { some-slots = omega (arith, h .slots≥, c .before .before .before .before .before .before .before .before .before .before .get42 .ensures); few-slots = omega (arith, h .slots≤, c .before .before .before .before .before .before .before .before .before .before .get42 .ensures); room = omega (arith, h .long, c .before .before .before .before .before .before .before .before .before .before .get42 .ensures); numbered = omega arith }, (omega (arith, l, c .before .before .before .load .kept, c .before .before .before .before .before .before .before .before .before .before .before .get4 .ensures), u))
 
-same-length : tie.Need-same-length
-same-length c = search needs
-
 returns-3 : tie.Need-returns-3
 returns-3 c =
     let p3 = c .before .before .before in
@@ -61,9 +49,6 @@ returns-3 c =
     let h = p16 .before .head-ok .ensures in
     let l = values-cells _ _ h (p16 .if1 .taken) _ (p20 .pre) in
     absurd (values-read _ _ h (p16 .if1 .taken) _ _ _ (p12 .before .before .before .get4 .ensures) (p12 .before .before .get42 .ensures) (p12 .before .get43 .ensures) _ (p12 .last-met .ensures) _ (p10 .counted .given .1) _ l _ _ _ (p7 .load .ensures) (p3 .replay .ensures) (c .if2 .left))
-
-same-length-2 : tie.Need-same-length-2
-same-length-2 c = search needs
 
 returns-4 : tie.Need-returns-4
 returns-4 c =
@@ -81,18 +66,18 @@ pub values-spec : {M : Type 1} → statement M
 values-spec =
     tie.close
     (tie.spec
-    head-ok-requires
+    (λ c κs. search needs)
     returns
     get4-requires
     get4-requires-2
     get4-requires-3
     last-met-requires
-    enum-known-counted
-    enum-told
+    (λ c. search needs)
+    (λ c. search needs)
     returns-2
     load-requires
     replay-requires
-    same-length
+    (λ c. search needs)
     returns-3
-    same-length-2
+    (λ c. search needs)
     returns-4)

@@ -7,9 +7,6 @@ use borrow.Author.Needs.{needs}
 use Rattle.walker.proofs.next_at.Statement.{statement}
 use Rattle.walker.proofs.next_at.Tie as tie
 
-head-ok-requires : tie.Need-head-ok-requires
-head-ok-requires c κs = search needs
-
 returns : tie.Need-returns
 returns c = no-head _ _ _ (c .before .head-ok .ensures) (c .if1 .left)
 
@@ -18,9 +15,6 @@ get4-requires c κs = let h = head-fits _ _ (c .before .head-ok .ensures) (c .if
 
 get4-requires-2 : tie.Need-get4-requires-2
 get4-requires-2 c κs = let h = head-fits _ _ (c .before .before .head-ok .ensures) (c .before .if1 .taken) in omega (arith, h .long)
-
-counted-requires : tie.Need-counted-requires
-counted-requires c κs = search needs
 
 returns-2 : tie.Need-returns-2
 returns-2 c = no-count _ _ _ (c .before .before .before .before .before .head-ok .ensures) (c .before .before .before .before .if1 .taken) _ _ (c .before .before .before .get4 .ensures) (c .before .before .get42 .ensures) _ (c .before .counted .ensures) (c .if2 .left)
@@ -44,11 +38,11 @@ pub next-at-spec : {M : Type 1} → statement M
 next-at-spec =
     tie.close
     (tie.spec
-    head-ok-requires
+    (λ c κs. search needs)
     returns
     get4-requires
     get4-requires-2
-    counted-requires
+    (λ c κs. search needs)
     returns-2
     get4-requires-3
     row-after-requires

@@ -8,29 +8,8 @@ use borrow.Author.Needs.{needs}
 use Rattle.walker.proofs.row_after.Statement.{statement}
 use Rattle.walker.proofs.row_after.Tie as tie
 
-add-next : tie.Need-add-next
-add-next c = search needs
-
-row-at-requires : tie.Need-row-at-requires
-row-at-requires c κs = search needs
-
-add-at : tie.Need-add-at
-add-at c = search needs
-
-get4-requires : tie.Need-get4-requires
-get4-requires c κs = search needs
-
 returns : tie.Need-returns
 returns c = next-other _ _ _ _ _ (number-from _ _ _ _ (ap (λ x. 32 + x) (c .before .before .row-at .ensures .0)) _ (c .before .get4 .ensures)) (c .if1 .taken)
-
-entry-from-requires : tie.Need-entry-from-requires
-entry-from-requires c κs = search needs
-
-enum-known-what : tie.Need-enum-known-what
-enum-known-what c = search needs
-
-enum-told : tie.Need-enum-told
-enum-told c = search needs
 
 returns-2 : tie.Need-returns-2
 returns-2 c =
@@ -48,13 +27,13 @@ pub row-after-spec : {M : Type 1} → statement M
 row-after-spec =
     tie.close
     (tie.spec
-    add-next
-    row-at-requires
-    add-at
-    get4-requires
+    (λ c. search needs)
+    (λ c κs. search needs)
+    (λ c. search needs)
+    (λ c κs. search needs)
     returns
-    entry-from-requires
-    enum-known-what
-    enum-told
+    (λ c κs. search needs)
+    (λ c. search needs)
+    (λ c. search needs)
     returns-2
     returns-3)

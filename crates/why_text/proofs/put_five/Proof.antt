@@ -8,12 +8,6 @@ use borrow.Author.Needs.{needs}
 use Rattle.why_text.proofs.put_five.Statement.{statement}
 use Rattle.why_text.proofs.put_five.Tie as tie
 
-slice-aggregate-put-line : tie.Need-slice-aggregate-put-line
-slice-aggregate-put-line c = search needs
-
-put-line-requires : tie.Need-put-line-requires
-put-line-requires c κs = search needs
-
 put-value-requires : tie.Need-put-value-requires
 put-value-requires c κs = omega (arith, length-line cellKey (c .before .before .before .before .before .before .before .args .cell), c .before .before .before .put-line .ensures .end)
 
@@ -22,24 +16,15 @@ put-reason-requires c κs =
     let a = c .before .before .before .before .before .before .before .before .before .before .before .args in
     omega (arith, length-line cellKey (a .cell), length-value (a .value), c .before .before .before .before .before .before .before .put-line .ensures .end, c .before .before .before .put-value .ensures .end)
 
-slice-aggregate-put-line-2 : tie.Need-slice-aggregate-put-line-2
-slice-aggregate-put-line-2 c = search needs
-
 put-line-requires-2 : tie.Need-put-line-requires-2
 put-line-requires-2 c κs =
     let a = c .before .before .before .before .before .before .before .before .before .before .before .before .before .before .before .before .args in
     omega (arith, length-line cellKey (a .cell), length-value (a .value), length-reason (a .decision .reason), c .before .before .before .before .before .before .before .before .before .before .before .before .put-line .ensures .end, c .before .before .before .before .before .before .before .before .put-value .ensures .end, c .before .before .before .before .put-reason .ensures .end)
 
-slice-aggregate-put-line-3 : tie.Need-slice-aggregate-put-line-3
-slice-aggregate-put-line-3 c = search needs
-
 put-line-requires-3 : tie.Need-put-line-requires-3
 put-line-requires-3 c κs =
     let a = c .before .before .before .before .before .before .before .before .before .before .before .before .before .before .before .before .before .before .before .before .before .args in
     omega (arith, length-line cellKey (a .cell), length-value (a .value), length-reason (a .decision .reason), length-line entryKey (a .decision .entry), c .before .before .before .before .before .before .before .before .before .before .before .before .before .before .before .before .before .put-line .ensures .end, c .before .before .before .before .before .before .before .before .before .before .before .before .before .put-value .ensures .end, c .before .before .before .before .before .before .before .before .before .put-reason .ensures .end, c .before .before .before .before .put-line2 .ensures .end)
-
-same-length : tie.Need-same-length
-same-length c = search needs
 
 returns : tie.Need-returns
 returns c =
@@ -50,13 +35,13 @@ pub put-five-spec : {M : Type 1} → statement M
 put-five-spec =
     tie.close
     (tie.spec
-    slice-aggregate-put-line
-    put-line-requires
+    (λ c. search needs)
+    (λ c κs. search needs)
     put-value-requires
     put-reason-requires
-    slice-aggregate-put-line-2
+    (λ c. search needs)
     put-line-requires-2
-    slice-aggregate-put-line-3
+    (λ c. search needs)
     put-line-requires-3
-    same-length
+    (λ c. search needs)
     returns)

@@ -1,7 +1,7 @@
 -- `words::number` is the word's number. By the digits that remain: those from the start after 0 give what those from i on after n give.
 use borrow.Author.Needs.{needs}
 use Prim.Native.Nat.{_-_, _≤_}
-use mathlib.Core.Path.{_≡_, refl, sym, _∙_}
+use mathlib.Core.Path.{_≡_, refl, _∙_}
 use native.Mathlib.Omega.{arith}
 use Rattle.words.specs.Words.{digits}
 use Rattle.words.proofs.Digits.{digits-low, digits-high, digits-large, digits-more, digits-end, number-none, number-is}
@@ -19,12 +19,6 @@ returns c = number-none _ _ _ (omega arith)
 
 loop-holds : tie.Need-loop-holds Inv-loop μ-loop
 loop-holds c = (omega arith, omega arith, omega arith, refl)
-
-byte-requires : tie.Need-byte-requires Inv-loop μ-loop
-byte-requires c κs = search needs
-
-wide-requires : tie.Need-wide-requires Inv-loop μ-loop
-wide-requires c κs = search needs
 
 returns-2 : tie.Need-returns-2 Inv-loop μ-loop
 returns-2 c = number-is _ _ _ _ (omega arith) (c .before .before .before .before .loop .inv .3 ∙ digits-low _ _ _ _ (omega arith) (omega arith))
@@ -61,8 +55,8 @@ number-spec =
     μ-loop
     returns
     loop-holds
-    byte-requires
-    wide-requires
+    (λ c κs. search needs)
+    (λ c κs. search needs)
     returns-2
     returns-3
     mul-n

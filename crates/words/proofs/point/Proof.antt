@@ -1,6 +1,6 @@
 -- `words::point` is the word's first point, or its end. By the bytes that remain.
 use borrow.Author.Needs.{needs}
-use Prim.Native.Nat.{_-_, _≤_}
+use Prim.Native.Nat.{_-_}
 use mathlib.Core.Path.{_≡_, refl, sym, _∙_}
 use native.Mathlib.Omega.{arith}
 use Rattle.words.specs.Words.{pointIn}
@@ -16,9 +16,6 @@ abbrev μ-loop : tie.MeasureT-loop
 
 loop-holds : tie.Need-loop-holds Inv-loop μ-loop
 loop-holds c = refl
-
-byte-requires : tie.Need-byte-requires Inv-loop μ-loop
-byte-requires c κs = search needs
 
 returns : tie.Need-returns Inv-loop μ-loop
 returns c = sym (c .before .before .before .loop .inv ∙ point-here _ _ _ (omega arith) (omega arith))
@@ -42,7 +39,7 @@ point-spec =
     Inv-loop
     μ-loop
     loop-holds
-    byte-requires
+    (λ c κs. search needs)
     returns
     add-i
     loop-less

@@ -11,29 +11,11 @@ Inv-loop a b from n i₀ i = Unit {0}
 abbrev μ-loop : tie.MeasureT-loop
 μ-loop a b from n i₀ i = n - i
 
-loop-holds : tie.Need-loop-holds Inv-loop μ-loop
-loop-holds c = search needs
-
-byte-requires : tie.Need-byte-requires Inv-loop μ-loop
-byte-requires c κs = search needs
-
-byte-requires-2 : tie.Need-byte-requires-2 Inv-loop μ-loop
-byte-requires-2 c κs = search needs
-
-returns : tie.Need-returns Inv-loop μ-loop
-returns c = search needs
-
 add-i : tie.Need-add-i Inv-loop μ-loop
 add-i c = omega arith
 
 loop-less : tie.Need-loop-less Inv-loop μ-loop
 loop-less c = omega arith
-
-loop-again : tie.Need-loop-again Inv-loop μ-loop
-loop-again c = search needs
-
-returns-2 : tie.Need-returns-2 Inv-loop μ-loop
-returns-2 c = search needs
 
 pub differs-at-spec : {M : Type 1} → statement M
 differs-at-spec =
@@ -41,11 +23,11 @@ differs-at-spec =
     (tie.spec
     Inv-loop
     μ-loop
-    loop-holds
-    byte-requires
-    byte-requires-2
-    returns
+    (λ c. search needs)
+    (λ c κs. search needs)
+    (λ c κs. search needs)
+    (λ c. search needs)
     add-i
     loop-less
-    loop-again
-    returns-2)
+    (λ c. search needs)
+    (λ c. search needs))
