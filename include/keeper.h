@@ -146,7 +146,8 @@ uint32_t keeper_write_row(uint8_t *row, size_t row_len, uint32_t number, uint32_
 
 /* The counter: two questions over a medium whose recovery has ended, before any write-back. They stand in an archive of their own,
  * libcounter_boundary.a, which is linked beside libboundary.a (scripts/native-archive counter_boundary OUT). Both read the table as it
- * stands in `medium`, take no state and store nothing. A control unit owns the `count` cells from `lowest` on.
+ * stands in `medium`, take no state and store nothing, and are proved to answer as ticket 1 of document 02 says, for every input.
+ * A control unit owns the `count` cells from `lowest` on.
  * Both refuse 1: the head or the length out of rule; 4: lowest plus count above N, not wrapped; 12: every cell of the span empty,
  * a span of 0 cells included. */
 
