@@ -2,16 +2,16 @@
 use Prim.Native.Nat.{ℕ, zero, suc, _+_, _*_, _-_, _%_, _≤_, _<_}
 use mathlib.Core.Path.{_≡_, refl, sym, ap, subst, _∙_}
 use mathlib.Core.Bool.{Bool, true, false, _&&_}
-use mathlib.Core.List.{List, []}
+use mathlib.Core.List.{List}
 use mathlib.Core.Option.{Option, none, some}
 use native.Mathlib.Nat.{mod-lt, zero-add}
 use native.Mathlib.Omega.{arith}
 use borrow.Author.Tests.{eqb-true, leb-false, lt-ltb}
-use lib.Dec.{eqb, ltb}
+use lib.Dec.{ltb}
 use lib.ListN.{length, take, drop, getD}
 use Rattle.scope.specs.Bytes.{pick, bytesOf, numberAt, put}
 use Rattle.scope.specs.Row.{Entry}
-use Rattle.scope.specs.Keeper.{Keeper, Outcome, done, refused, head, clean, stored, idle, valueOf, mediumLength, rowAt, cellAt, waitingRow, headBytes, withState, withMedium, withWaiting, madeTo, storedNext, droppedTo, storeCell, storeHead}
+use Rattle.scope.specs.Keeper.{Keeper, Outcome, done, refused, head, clean, stored, idle, valueOf, mediumLength, rowAt, cellAt, waitingRow, headBytes, withState, withMedium, madeTo, storedNext, droppedTo, storeCell, storeHead}
 use Rattle.scope.specs.Recovery.{journal, tableOf, differing}
 use Rattle.scope.specs.Refusals.{Call, RecoveryStart, RecoveryStep, Begin, Commit, Abort, Force, Read, WriteBack, Cut, Write, isMedium, isRows, lent, unfit, tests, refusal}
 use Rattle.scope.specs.Calls.{unless, startWith, unlessStart, recoveryStart, stepAt, recoveryStep, force, cleaned, writeBack, cut, act}
@@ -23,7 +23,7 @@ use Rattle.scope.proofs.StepCall.{differing-some}
 use Rattle.scope.proofs.HeadStores.{head#}
 use Rattle.scope.proofs.Sound.{Sound, sound-facts, fit-sound, fit-lent}
 use Rattle.scope.proofs.Frames.{frame}
-use Rattle.console.specs.Made.{Place, nowhere, headPlace, rowPlace, cellPlace, forcePlace, cutPlace, backPlace, stepPlace, placeOf}
+use Rattle.console.specs.Made.{Place, nowhere, headPlace, cellPlace, forcePlace, backPlace, stepPlace, placeOf}
 
 abbrev pub Brings : Place → Keeper → Outcome → Type 0
 Brings p k o = o .keeper .medium ≡ put (k .medium) (p .at) (take (p .size) (drop (p .at) (o .keeper .medium)))

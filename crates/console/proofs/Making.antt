@@ -1,7 +1,7 @@
 -- The call that was made is the papers' call: what it leaves of the buffers that it is lent, framed by those that it isn't, and its `Did` by
 -- its answer. And which call a number asks for.
 use Prim.Native.Nat.{ℕ, _+_, _≤_, _<_}
-use mathlib.Core.Path.{_≡_, refl, sym, ap, subst, _∙_}
+use mathlib.Core.Path.{_≡_, sym, ap, subst, _∙_}
 use mathlib.Core.List.{List, []}
 use native.Mathlib.Omega.{arith}
 use borrow.Author.Tests.{ne-eqb, lt-ltb}

@@ -1,7 +1,6 @@
 -- A call that is chosen by number: which of the papers' calls it is, what its `Did` says of the answer, and where its one store stands.
 use Prim.Native.Nat.{ℕ, _+_}
 use mathlib.Core.Path.{_≡_}
-use mathlib.Core.Bool.{Bool, true, false}
 use lib.Dec.{eqb, ltb}
 use lib.ListN.{take, drop}
 use Rattle.scope.specs.Bytes.{pick, put}

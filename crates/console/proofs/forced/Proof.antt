@@ -4,7 +4,7 @@ use Rattle.console.proofs.Making.{did-as, force-none, force-row}
 use Rattle.keeper.specs.Answers.{answered}
 use Rattle.scope.specs.Keeper.{valueOf}
 use Rattle.console.specs.Made.{forcePlace}
-use mathlib.Core.Path.{ap, sym, subst}
+use mathlib.Core.Path.{sym, subst}
 use Prim.Native.Nat.{_<_}
 use native.Mathlib.Omega.{arith}
 use Rattle.keeper.specs.declared.Answer as plain

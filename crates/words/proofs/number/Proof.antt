@@ -1,7 +1,7 @@
 -- `words::number` is the word's number. By the digits that remain: those from the start after 0 give what those from i on after n give.
 use borrow.Author.Needs.{needs}
 use Prim.Native.Nat.{_-_, _≤_}
-use mathlib.Core.Path.{_≡_, refl, sym, _∙_}
+use mathlib.Core.Path.{_≡_, refl, _∙_}
 use native.Mathlib.Omega.{arith}
 use Rattle.words.specs.Words.{digits}
 use Rattle.words.proofs.Digits.{digits-low, digits-high, digits-large, digits-more, digits-end, number-none, number-is}

@@ -1,6 +1,5 @@
 -- `words::release` is the word's release: the numbers before and after its first point, joined.
 use borrow.Author.Needs.{needs}
-use native.Mathlib.Omega.{arith}
 use Rattle.words.proofs.Digits.{release-none, release-is}
 use Rattle.words.proofs.release.Statement.{statement}
 use Rattle.words.proofs.release.Tie as tie

@@ -1,24 +1,28 @@
--- `words::word_end` meets its contract. It ends: the bytes of the line that are left fall.
-use Prim.Native.Nat.{_-_}
+-- `words::word_end` is the first space, or the end. By the bytes that remain.
 use borrow.Author.Needs.{needs}
+use Prim.Native.Nat.{_-_}
+use mathlib.Core.Path.{_≡_, refl, sym, _∙_}
 use native.Mathlib.Omega.{arith}
+use Rattle.words.specs.Words.{placeIn, isSpace, wordTo}
+use Rattle.words.proofs.Digits.{at-byte, past-byte, place-end}
 use Rattle.words.proofs.word_end.Statement.{statement}
 use Rattle.words.proofs.word_end.Tie as tie
 
 abbrev Inv-loop : tie.InvT-loop
-Inv-loop s from n i₀ i = Unit {0}
+Inv-loop s from n i₀ i = placeIn isSpace (n - i₀) s i₀ ≡ placeIn isSpace (n - i) s i
 
 abbrev μ-loop : tie.MeasureT-loop
 μ-loop s from n i₀ i = n - i
 
 loop-holds : tie.Need-loop-holds Inv-loop μ-loop
-loop-holds c = search needs
+loop-holds c = refl
 
 byte-requires : tie.Need-byte-requires Inv-loop μ-loop
 byte-requires c κs = search needs
 
 returns : tie.Need-returns Inv-loop μ-loop
-returns c = search needs
+unfolding wordTo
+returns c = sym (c .before .before .before .loop .inv ∙ at-byte 32 _ _ _ (omega arith) (omega arith))
 
 add-i : tie.Need-add-i Inv-loop μ-loop
 add-i c = omega arith
@@ -27,10 +31,11 @@ loop-less : tie.Need-loop-less Inv-loop μ-loop
 loop-less c = omega arith
 
 loop-again : tie.Need-loop-again Inv-loop μ-loop
-loop-again c = search needs
+loop-again c = c .before .before .before .loop .inv ∙ past-byte 32 _ _ _ (omega arith) (λ z. omega arith)
 
 returns-2 : tie.Need-returns-2 Inv-loop μ-loop
-returns-2 c = search needs
+unfolding wordTo
+returns-2 c = sym (c .before .loop .inv ∙ place-end isSpace _ _ _ (omega arith))
 
 pub word-end-spec : {M : Type 1} → statement M
 word-end-spec =
