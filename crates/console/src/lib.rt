@@ -2,7 +2,7 @@
 // data. Nothing is checked here: the keeper does its own checking.
 ghost use mathlib.Core.Path.{_≡_};
 ghost use Prim.Native.Nat.{_+_, _<_, _≤_};
-ghost use Rattle.scope.specs.Keeper.{refused, cell, valueOf, rowAt};
+ghost use Rattle.scope.specs.Keeper.{refused, valueOf, rowAt};
 ghost use Rattle.recovery.specs.Answers.{stepped};
 ghost use Rattle.keeper.specs.Answers.{answered, writtenBack, handed};
 ghost use Rattle.console.specs.Made.{nowhere, cutPlace, forcePlace, backPlace, stepPlace, didOf, callOf, Made};

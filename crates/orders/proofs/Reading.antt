@@ -10,7 +10,7 @@ use Rattle.words.specs.declared.Parsed.the-variants.{Is, Not}
 use Rattle.words.specs.declared.Span.{Span}
 use Rattle.words.specs.Words.{parsed}
 use Rattle.orders.specs.declared.Read.{Read}
-use Rattle.orders.specs.Orders.{told, wrongOrder, numberOrder, writeOrder}
+use Rattle.orders.specs.Orders.{told, wrongOrder, numberOrder, writeOrder, sizedOrder}
 
 -- a number below 2^32, kept in 32 bits
 pub read-is : (x : Parsed) (w : Option ℕ) (n : ℕ) → ((m : ℕ) → w ≡ some m → m ≤ 4294967295) → parsed x ≡ w → x ≡ Is n → some (n % 4294967296) ≡ w
@@ -58,3 +58,18 @@ module _ (r : Read) (x y z : Option ℕ) (w : Span) (e : told r ≡ x) where
       ap (λ (o : Option ℕ). writeOrder (some (r .n)) (some (q .n)) o w) (sym (told-good p z g h))
       ∙ ap (λ (o : Option ℕ). writeOrder (some (r .n)) o z w) (sym (told-good q y f d))
       ∙ ap (λ (o : Option ℕ). writeOrder o y z w) (sym (told-good r x e b))
+
+module _ (erase : Bool) (r : Read) (x y : Option ℕ) (w : Span) (e : told r ≡ x) where
+  pub size-cells : r .bad ≡ true → wrongOrder 11 w ≡ sizedOrder erase x y w
+  size-cells b = ap (λ (o : Option ℕ). sizedOrder erase o y w) (sym (told-bad r x e b))
+
+  pub size-rows : (q : Read) → told q ≡ y → r .bad ≡ false → q .bad ≡ true → wrongOrder 11 w ≡ sizedOrder erase x y w
+  size-rows q f b d =
+      ap (λ (o : Option ℕ). sizedOrder erase (some (r .n)) o w) (sym (told-bad q y f d))
+      ∙ ap (λ (o : Option ℕ). sizedOrder erase o y w) (sym (told-good r x e b))
+
+  pub size-both : (q : Read) → told q ≡ y → r .bad ≡ false → q .bad ≡ false
+      → record { kind = 11; wrong = false; a = r .n; b = q .n; erase = erase; value = 0; name = w } ≡ sizedOrder erase x y w
+  size-both q f b d =
+      ap (λ (o : Option ℕ). sizedOrder erase (some (r .n)) o w) (sym (told-good q y f d))
+      ∙ ap (λ (o : Option ℕ). sizedOrder erase o y w) (sym (told-good r x e b))

@@ -5,7 +5,7 @@ pub mod show;
 ghost use mathlib.Core.Path.{_≡_};
 ghost use mathlib.Core.Bool.{false};
 ghost use Rattle.words.specs.Words.{wordNumber, wordRelease};
-ghost use Rattle.orders.specs.Orders.{told, numberOrder, writeOrder};
+ghost use Rattle.orders.specs.Orders.{told, numberOrder, writeOrder, sizedOrder, callKind, kindOf, arityOf, givenOf, sizesOrder, wordsOrder, wordedOrder, orderOf};
 use console::Asked;
 use words::Parsed;
 use words::Span;
@@ -51,7 +51,9 @@ pub struct Order {
 }
 
 // The call that a word names. Words are compared as numbers: `cut` is 6,518,132.
-fn call_kind(key: u64) -> u32 {
+fn call_kind(key: u64) -> u32
+    ensures { λ r. ⌜ r ≡ callKind key ⌝ }
+{
     match key {
         422608071022 => console::BEGIN,
         513020621925 => console::WRITE,
@@ -68,7 +70,9 @@ fn call_kind(key: u64) -> u32 {
 }
 
 // The kind that a first word names.
-fn kind_of(key: u64) -> u32 {
+fn kind_of(key: u64) -> u32
+    ensures { λ r. ⌜ r ≡ kindOf key ⌝ }
+{
     match key {
         1869636974 => OPEN,
         7234935 => NEW,
@@ -84,7 +88,9 @@ fn kind_of(key: u64) -> u32 {
 }
 
 // How many words follow the first.
-fn arity(kind: u32) -> u32 {
+fn arity(kind: u32) -> u32
+    ensures { λ r. ⌜ r ≡ arityOf kind ⌝ }
+{
     if kind == console::WRITE {
         return 3;
     }
@@ -110,7 +116,9 @@ fn arity(kind: u32) -> u32 {
 }
 
 // How many words of a line follow its first, as far as four.
-fn given(a: Span, b: Span, c: Span, d: Span) -> u32 {
+fn given(a: Span, b: Span, c: Span, d: Span) -> u32
+    ensures { λ r. ⌜ r ≡ givenOf a b c d ⌝ }
+{
     if words::is_empty(a) {
         return 0;
     }
@@ -191,22 +199,17 @@ fn numbered(s: &[u8], kind: u32, a: Span) -> Order
     }
 }
 
-// A format: cells, rows, and the word `erase` or nothing.
-fn formatted(s: &[u8], count: u32, a: Span, b: Span, c: Span) -> Order {
+// A format: cells and rows.
+fn sized(s: &[u8], a: Span, b: Span, erase: bool) -> Order
+    ensures { λ r. ⌜ r ≡ sizedOrder erase (wordNumber (now (s .entry)) (a .from) (a .to)) (wordNumber (now (s .entry)) (b .from) (b .to)) a ⌝ }
+{
     let x = read_number(s, a);
-    let y = read_number(s, b);
-    let wrong = plain(FORMAT, true, a);
     if x.bad {
-        return wrong;
+        return plain(FORMAT, true, a);
     }
+    let y = read_number(s, b);
     if y.bad {
-        return wrong;
-    }
-    let erase = count == 3;
-    if erase {
-        if words::key(s, c) != ERASE {
-            return wrong;
-        }
+        return plain(FORMAT, true, a);
     }
     Order {
         kind: FORMAT,
@@ -246,17 +249,25 @@ fn written(s: &[u8], a: Span, b: Span, c: Span) -> Order
     }
 }
 
-fn with_sizes(s: &[u8], count: u32, a: Span, b: Span, c: Span) -> Order {
+// A format's words: two sizes, and the word `erase` or nothing.
+fn with_sizes(s: &[u8], count: u32, a: Span, b: Span, c: Span) -> Order
+    ensures { λ r. ⌜ r ≡ sizesOrder (now (s .entry)) count a b c ⌝ }
+{
     if count == 2 {
-        return formatted(s, count, a, b, c);
+        return sized(s, a, b, false);
     }
-    if count == 3 {
-        return formatted(s, count, a, b, c);
+    if count != 3 {
+        return plain(FORMAT, true, a);
+    }
+    if words::key(s, c) == ERASE {
+        return sized(s, a, b, true);
     }
     plain(FORMAT, true, a)
 }
 
-fn with_words(s: &[u8], kind: u32, count: u32, a: Span, b: Span, c: Span) -> Order {
+fn with_words(s: &[u8], kind: u32, count: u32, a: Span, b: Span, c: Span) -> Order
+    ensures { λ r. ⌜ r ≡ wordsOrder (now (s .entry)) kind count a b c ⌝ }
+{
     let n = arity(kind);
     if count != n {
         return plain(kind, true, a);
@@ -277,7 +288,9 @@ fn with_words(s: &[u8], kind: u32, count: u32, a: Span, b: Span, c: Span) -> Ord
 }
 
 // The order of a line that is not empty.
-fn worded(s: &[u8], first: Span) -> Order {
+fn worded(s: &[u8], first: Span) -> Order
+    ensures { λ r. ⌜ r ≡ wordedOrder (now (s .entry)) first ⌝ }
+{
     let kind = kind_of(words::key(s, first));
     let a = words::word_after(s, first.to);
     let b = words::word_after(s, a.to);
@@ -294,7 +307,9 @@ fn worded(s: &[u8], first: Span) -> Order {
 }
 
 // The order of a line.
-pub fn parse(s: &[u8]) -> Order {
+pub fn parse(s: &[u8]) -> Order
+    ensures { λ r. ⌜ r ≡ orderOf (now (s .entry)) ⌝ }
+{
     let first = words::word_after(s, 0);
     if words::is_empty(first) {
         return plain(NOTHING, false, first);

@@ -1,17 +1,17 @@
 -- Laws of words as numbers and releases: one byte more, by what it is; and that a number is below 2^32.
 use Prim.Native.Nat.{ℕ, zero, suc, _+_, _*_, _-_, _≤_, _<_}
 use mathlib.Core.Path.{_≡_, refl, sym, ap, _∙_}
-use mathlib.Core.Bool.{Bool, true, false, _&&_}
+use mathlib.Core.Bool.{Bool, true, false, _&&_, not}
 use mathlib.Core.List.{List}
 use mathlib.Core.Option.{Option, none, some}
 use native.Mathlib.Omega.{arith}
 use borrow.Author.Tests.{leb-true, le-leb, lt-leb, lt-ltb, le-ltb, eq-eqb, ne-eqb}
-use lib.Dec.{leb, ltb}
+use lib.Dec.{leb, ltb, eqb}
 use lib.ListN.{getD}
 use Rattle.scope.specs.Bytes.{pick}
 use Rattle.words.specs.declared.Parsed.{Parsed}
 use Rattle.words.specs.declared.Parsed.the-variants.{Is}
-use Rattle.words.specs.Words.{parsed, isDigit, more, digits, wordNumber, pointIn, joinedRelease, wordRelease}
+use Rattle.words.specs.Words.{parsed, isDigit, more, digits, wordNumber, placeIn, isPoint, wordFrom, wordTo, wordAfter, keyIn, joinedRelease, wordRelease}
 
 never : (m : ℕ) → none ≡ some m → ⊥
 never m e = let z : _≡_ {A = ℕ} 0 1 = cc in omega arith
@@ -79,19 +79,50 @@ number-small s from to m e = go (ltb from to) e
     go true e = digits-small (to - from) s from 0 m (omega arith) e
     go false e = absurd (never m e)
 
--- points
-module _ (s : List ℕ) (i to : ℕ) where
-  pub point-here : i < to → getD s i 0 ≡ 46 → pointIn (to - i) s i ≡ i
-  unfolding pointIn
-  point-here h e = ap (λ (k : ℕ). pointIn k s i) (left-of i to h) ∙ rw (eq-eqb (getD s i 0) 46 e)
+-- places
+module _ (t : ℕ → Bool) (s : List ℕ) (i to : ℕ) where
+  pub place-here : i < to → t (getD s i 0) ≡ true → placeIn t (to - i) s i ≡ i
+  unfolding placeIn
+  place-here h e = ap (λ (k : ℕ). placeIn t k s i) (left-of i to h) ∙ rw e
 
-  pub point-on : i < to → (getD s i 0 ≡ 46 → ⊥) → pointIn (to - i) s i ≡ pointIn (to - (i + 1)) s (i + 1)
-  unfolding pointIn
-  point-on h e = ap (λ (k : ℕ). pointIn k s i) (left-of i to h) ∙ rw (ne-eqb (getD s i 0) 46 e)
+  pub place-on : i < to → t (getD s i 0) ≡ false → placeIn t (to - i) s i ≡ placeIn t (to - (i + 1)) s (i + 1)
+  unfolding placeIn
+  place-on h e = ap (λ (k : ℕ). placeIn t k s i) (left-of i to h) ∙ rw e
 
-  pub point-end : to ≤ i → pointIn (to - i) s i ≡ i
-  unfolding pointIn
-  point-end h = let z : to - i ≡ 0 = omega arith in ap (λ (k : ℕ). pointIn k s i) z
+  pub place-end : to ≤ i → placeIn t (to - i) s i ≡ i
+  unfolding placeIn
+  place-end h = let z : to - i ≡ 0 = omega arith in ap (λ (k : ℕ). placeIn t k s i) z
+
+module _ (c : ℕ) (s : List ℕ) (i to : ℕ) (h : i < to) where
+  pub at-byte : getD s i 0 ≡ c → placeIn (λ (b : ℕ). eqb b c) (to - i) s i ≡ i
+  at-byte e = place-here (λ (b : ℕ). eqb b c) s i to h (eq-eqb (getD s i 0) c e)
+
+  pub past-byte : (getD s i 0 ≡ c → ⊥) → placeIn (λ (b : ℕ). eqb b c) (to - i) s i ≡ placeIn (λ (b : ℕ). eqb b c) (to - (i + 1)) s (i + 1)
+  past-byte e = place-on (λ (b : ℕ). eqb b c) s i to h (ne-eqb (getD s i 0) c e)
+
+  pub at-other : (getD s i 0 ≡ c → ⊥) → placeIn (λ (b : ℕ). not (eqb b c)) (to - i) s i ≡ i
+  at-other e = place-here (λ (b : ℕ). not (eqb b c)) s i to h (rw (ne-eqb (getD s i 0) c e))
+
+  pub past-other : getD s i 0 ≡ c → placeIn (λ (b : ℕ). not (eqb b c)) (to - i) s i ≡ placeIn (λ (b : ℕ). not (eqb b c)) (to - (i + 1)) s (i + 1)
+  past-other e = place-on (λ (b : ℕ). not (eqb b c)) s i to h (rw (eq-eqb (getD s i 0) c e))
+
+pub word-is : (s : List ℕ) (at f t : ℕ) → f ≡ wordFrom s at → t ≡ wordTo s f → record { from = f; to = t } ≡ wordAfter s at
+word-is s at f t e q = λ i. record { from = e i; to = (q ∙ ap (wordTo s) e) i }
+
+-- keys
+module _ (s : List ℕ) (i to n : ℕ) where
+  pub key-wide : i < to → 72057594037927935 < n → keyIn (to - i) s i n ≡ 0
+  unfolding keyIn
+  key-wide h g = ap (λ (k : ℕ). keyIn k s i n) (left-of i to h) ∙ rw (lt-leb n 72057594037927935 g)
+
+  pub key-on : (m : ℕ) → m ≡ n * 256 + getD s i 0 → i < to → n ≤ 72057594037927935 → keyIn (to - i) s i n ≡ keyIn (to - (i + 1)) s (i + 1) m
+  unfolding keyIn
+  key-on m e h g =
+      ap (λ (k : ℕ). keyIn k s i n) (left-of i to h) ∙ rw (le-leb n 72057594037927935 g) (ap (keyIn (to - (i + 1)) s (i + 1)) (sym e))
+
+  pub key-end : to ≤ i → keyIn (to - i) s i n ≡ n
+  unfolding keyIn
+  key-end h = let z : to - i ≡ 0 = omega arith in ap (λ (k : ℕ). keyIn k s i n) z
 
 -- releases
 module _ (x y : Parsed) (a b : ℕ) (e : x ≡ Is a) (f : y ≡ Is b) where
@@ -107,7 +138,7 @@ module _ (x y : Parsed) (a b : ℕ) (e : x ≡ Is a) (f : y ≡ Is b) where
   pub join-both : a ≤ 65535 → b ≤ 65535 → some (a + 65536 * b) ≡ joinedRelease (parsed x) (parsed y)
   join-both g h = sym (both ∙ rw (le-leb a 65535 g, le-leb b 65535 h))
 
-module _ (s : List ℕ) (from to p : ℕ) (e : p ≡ pointIn (to - from) s from) where
+module _ (s : List ℕ) (from to p : ℕ) (e : p ≡ placeIn isPoint (to - from) s from) where
   pub release-none : to ≤ p → none ≡ wordRelease s from to
   unfolding wordRelease
   release-none h = rw (← e, le-ltb p to h)
@@ -119,7 +150,7 @@ module _ (s : List ℕ) (from to p : ℕ) (e : p ≡ pointIn (to - from) s from)
 -- and so is a release
 pub release-small : (s : List ℕ) (from to m : ℕ) → wordRelease s from to ≡ some m → m ≤ 4294967295
 unfolding wordRelease
-release-small s from to m e = go (ltb (pointIn (to - from) s from) to) e
+release-small s from to m e = go (ltb (placeIn isPoint (to - from) s from) to) e
   where
     within : (a b : ℕ) (g h : Bool) → leb a 65535 ≡ g → leb b 65535 ≡ h → pick (g && h) (some (a + 65536 * b)) none ≡ some m → m ≤ 4294967295
     within a b true true p q e =
@@ -132,7 +163,7 @@ release-small s from to m e = go (ltb (pointIn (to - from) s from) to) e
     joined (some a) none e = absurd (never m e)
     joined (some a) (some b) e = within a b (leb a 65535) (leb b 65535) refl refl e
 
-    go : (t : Bool) → pick t (joinedRelease (wordNumber s from (pointIn (to - from) s from)) (wordNumber s (pointIn (to - from) s from + 1) to)) none ≡ some m
+    go : (t : Bool) → pick t (joinedRelease (wordNumber s from (placeIn isPoint (to - from) s from)) (wordNumber s (placeIn isPoint (to - from) s from + 1) to)) none ≡ some m
         → m ≤ 4294967295
-    go true e = joined (wordNumber s from (pointIn (to - from) s from)) (wordNumber s (pointIn (to - from) s from + 1) to) e
+    go true e = joined (wordNumber s from (placeIn isPoint (to - from) s from)) (wordNumber s (placeIn isPoint (to - from) s from + 1) to) e
     go false e = absurd (never m e)

@@ -1,8 +1,9 @@
 // Words of a line, the numbers and releases that they are, and a line read from standard input. Every function takes any bytes.
 ghost use mathlib.Core.Path.{_≡_};
 ghost use Prim.Native.Nat.{_-_, _<_, _≤_};
+ghost use lib.Dec.{leb};
 ghost use lib.ListN.{getD};
-ghost use Rattle.words.specs.Words.{parsed, pointIn, joinedRelease, wordNumber, wordRelease};
+ghost use Rattle.words.specs.Words.{parsed, placeIn, isPoint, wordFrom, wordTo, wordAfter, wordKey, joinedRelease, wordNumber, wordRelease};
 use libc::STDIN_FILENO;
 
 // A word's place in its line; an empty one has from = to.
@@ -51,7 +52,9 @@ fn wide(x: u8) -> u64
 }
 
 // The first place from `from` on that is no space, or the end.
-fn spaces_end(s: &[u8], from: usize) -> usize {
+fn spaces_end(s: &[u8], from: usize) -> usize
+    ensures { λ r. ⌜ r ≡ wordFrom (now (s .entry)) from ⌝ }
+{
     let n = s.len();
     let mut i = from;
     while i < n {
@@ -60,11 +63,13 @@ fn spaces_end(s: &[u8], from: usize) -> usize {
         }
         i += 1;
     }
-    n
+    i
 }
 
 // The first place from `from` on that is a space, or the end.
-fn word_end(s: &[u8], from: usize) -> usize {
+fn word_end(s: &[u8], from: usize) -> usize
+    ensures { λ r. ⌜ r ≡ wordTo (now (s .entry)) from ⌝ }
+{
     let n = s.len();
     let mut i = from;
     while i < n {
@@ -73,11 +78,13 @@ fn word_end(s: &[u8], from: usize) -> usize {
         }
         i += 1;
     }
-    n
+    i
 }
 
 // The first word from `from` on.
-pub fn word_after(s: &[u8], from: usize) -> Span {
+pub fn word_after(s: &[u8], from: usize) -> Span
+    ensures { λ r. ⌜ r ≡ wordAfter (now (s .entry)) from ⌝ }
+{
     let start = spaces_end(s, from);
     let end = word_end(s, start);
     Span {
@@ -86,12 +93,16 @@ pub fn word_after(s: &[u8], from: usize) -> Span {
     }
 }
 
-pub fn is_empty(w: Span) -> bool {
+pub fn is_empty(w: Span) -> bool
+    ensures { λ r. ⌜ r ≡ leb (w .to) (w .from) ⌝ }
+{
     w.to <= w.from
 }
 
 // A word of up to 8 bytes as one number, its first byte the highest; 0 for a longer one.
-pub fn key(s: &[u8], w: Span) -> u64 {
+pub fn key(s: &[u8], w: Span) -> u64
+    ensures { λ r. ⌜ r ≡ wordKey (now (s .entry)) w ⌝ }
+{
     let to = w.to;
     let mut i = w.from;
     let mut k: u64 = 0;
@@ -134,7 +145,7 @@ pub fn number(s: &[u8], w: Span) -> Parsed
 
 // Where the word's first point stands, or its end.
 fn point(s: &[u8], w: Span) -> usize
-    ensures { λ r. ⌜ r ≡ pointIn (w .to - w .from) (now (s .entry)) (w .from) ⌝ }
+    ensures { λ r. ⌜ r ≡ placeIn isPoint (w .to - w .from) (now (s .entry)) (w .from) ⌝ }
 {
     let to = w.to;
     let mut i = w.from;
