@@ -1,8 +1,8 @@
 /* The keeper: a table of cells on a medium that survives power loss, with a journal beside it.
  *
- * Every function here but the last two is proved to be the call of document 01 of the same name, for every input: what it answers,
- * the state that it leaves and each byte of what it is lent; `keeper_read_row` and `keeper_write_row` are its reading and its writing of
- * one row. None of them allocates, keeps a pointer, reads a clock or fails to return.
+ * Every function here is proved to be the call of document 01 of the same name, for every input: what it answers, the state that it
+ * leaves and each byte of what it is lent. Four have no such name: `keeper_read_row` and `keeper_write_row` are its reading and its writing
+ * of one row, `keeper_cell_to_order` and `keeper_part_in_hand` the counter's two questions. None of them allocates, keeps a pointer, reads a clock or fails to return.
  *
  * What the host lends
  *   A buffer is a pointer and a length in elements. The pointer is aligned for its element, the memory is the host's, and a
