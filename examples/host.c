@@ -34,6 +34,7 @@ struct host {
     size_t size;                /* the medium's length */
     size_t from, to;            /* by sector: stored in `medium`, not yet in the file */
     unsigned long syncs;
+    uint32_t reason, entry;     /* the bad row that the last refusal names, zeros where it names none */
     uint32_t state[KEEPER_STATE];
     uint8_t medium[MOST + 1];   /* the image, and room to see that a file is too long */
     uint64_t current[MOST_CELLS];
@@ -49,6 +50,7 @@ struct host {
 #define FIRST(h) (h)->first, (h)->state[N]
 #define LAST(h) (h)->last, (h)->state[N]
 #define WAITING(h) (h)->waiting, 32 * (size_t)(h)->state[C]
+#define BAD_ROW(h) &(h)->reason, &(h)->entry
 
 static const char *const REFUSED[] = {
     "done", "not a medium, or no recovery has run on it", "a journal row is no entry", "no transaction is open", "no such cell",
@@ -61,8 +63,15 @@ static void stop(const char *what) {
     exit(1);
 }
 
-static void refused(uint32_t number) {
-    fprintf(stderr, "host: %s\nrefused=%u\n", REFUSED[number < 12 ? number : 0], (unsigned)number);
+static const char *const REASON[] = {
+    "none", "too short", "other number", "unknown kind", "filler not zero", "cell out of range", "cell left in an end entry",
+    "old left in an end entry", "new left in an end entry", "not an update",
+};
+
+static void refused(const struct host *h, uint32_t number) {
+    fprintf(stderr, "host: %s\n", REFUSED[number < 12 ? number : 0]);
+    if (h->reason != 0) fprintf(stderr, "entry %u: %s\n", (unsigned)h->entry, REASON[h->reason < 10 ? h->reason : 0]);
+    fprintf(stderr, "refused=%u\n", (unsigned)number);
     exit(1);
 }
 
@@ -104,39 +113,39 @@ static size_t cell_place(const struct host *h, uint64_t cell) { return 32 + 32 *
 static void force_all(struct host *h) {
     uint64_t n;
     do {
-        uint32_t no = keeper_force(STATE(h), MEDIUM(h), WAITING(h), &n);
-        if (no != 0) refused(no);
+        uint32_t no = keeper_force(STATE(h), MEDIUM(h), WAITING(h), &n, BAD_ROW(h));
+        if (no != 0) refused(h, no);
         if (n != 0) bring(h, row_place(h, n), 32);
     } while (n != 0);
 }
 
 /* Room in the journal: each changed cell is written back, and the journal cut before the open transaction. */
 static void make_room(struct host *h) {
-    if (h->state[O] == h->state[H]) refused(5); /* nothing to let go: the transaction alone fills the journal */
+    if (h->state[O] == h->state[H]) refused(h, 5); /* nothing to let go: the transaction alone fills the journal */
     force_all(h);
     for (uint32_t cell = 0; cell < h->state[N]; cell++) {
         uint64_t stored;
         if (h->first[cell] == 0) continue;
         uint32_t no = keeper_write_back(STATE(h), cell, MEDIUM(h), CURRENT(h), FIRST(h), LAST(h), &stored);
-        if (no != 0) refused(no);
+        if (no != 0) refused(h, no);
         if (stored) bring(h, cell_place(h, cell), 8);
     }
-    uint32_t no = keeper_cut(STATE(h), h->state[O], MEDIUM(h), FIRST(h));
-    if (no != 0) refused(no);
+    uint32_t no = keeper_cut(STATE(h), h->state[O], MEDIUM(h), FIRST(h), BAD_ROW(h));
+    if (no != 0) refused(h, no);
     bring(h, 0, 32);
 }
 
 /* A transaction: begin, the writes, commit. When `commit` returns, it is on the card. */
 static void begin(struct host *h) {
     uint32_t no;
-    while ((no = keeper_begin(STATE(h), CURRENT(h), FIRST(h), LAST(h), WAITING(h))) == 5) make_room(h);
-    if (no != 0) refused(no);
+    while ((no = keeper_begin(STATE(h), CURRENT(h), FIRST(h), LAST(h), WAITING(h), BAD_ROW(h))) == 5) make_room(h);
+    if (no != 0) refused(h, no);
 }
 
 static void write_cell(struct host *h, uint32_t cell, uint64_t value) {
     uint32_t no;
     while ((no = keeper_write(STATE(h), cell, value, CURRENT(h), FIRST(h), LAST(h), WAITING(h))) == 5) make_room(h);
-    if (no != 0) refused(no);
+    if (no != 0) refused(h, no);
 }
 
 /* By sector: where the rows that are left of a sector are too few for a transaction like the last one, empty transactions fill them, in the
@@ -146,9 +155,9 @@ static void fill_sector(struct host *h, uint32_t rows) {
     for (;;) {
         size_t next = row_place(h, (uint64_t)h->state[L] + 1) % SECTOR;
         if (next == 0 || SECTOR - next >= 32 * (size_t)rows) return;
-        if (keeper_begin(STATE(h), CURRENT(h), FIRST(h), LAST(h), WAITING(h)) != 0) return;
+        if (keeper_begin(STATE(h), CURRENT(h), FIRST(h), LAST(h), WAITING(h), BAD_ROW(h)) != 0) return;
         uint32_t no = keeper_commit(STATE(h), WAITING(h), &number);
-        if (no != 0) refused(no);
+        if (no != 0) refused(h, no);
     }
 }
 
@@ -156,7 +165,7 @@ static void commit(struct host *h) {
     uint64_t number;
     uint32_t rows = h->state[L] - h->state[O] + 1;
     uint32_t no = keeper_commit(STATE(h), WAITING(h), &number);
-    if (no != 0) refused(no);
+    if (no != 0) refused(h, no);
     if (h->by_sector) fill_sector(h, rows);
     force_all(h);
     settle(h);
@@ -169,13 +178,14 @@ static void recover(struct host *h) {
         cells |= (uint32_t)h->medium[i] << 8 * i;
         rows |= (uint32_t)h->medium[4 + i] << 8 * i;
     }
-    if (cells > MOST_CELLS || rows > MOST_ROWS) refused(1);
-    uint32_t no = keeper_recovery_start(MEDIUM(h), h->current, cells, h->first, cells, h->last, cells, h->waiting, 32 * (size_t)rows, STATE(h));
-    if (no != 0) refused(no);
+    if (cells > MOST_CELLS || rows > MOST_ROWS) refused(h, 1);
+    uint32_t no = keeper_recovery_start(MEDIUM(h), h->current, cells, h->first, cells, h->last, cells, h->waiting, 32 * (size_t)rows, STATE(h),
+                                        BAD_ROW(h));
+    if (no != 0) refused(h, no);
     while (h->state[PHASE] == KEEPER_RECOVERING) {
         uint64_t stored;
         no = keeper_recovery_step(STATE(h), MEDIUM(h), CURRENT(h), &stored);
-        if (no != 0) refused(no);
+        if (no != 0) refused(h, no);
         if (stored == KEEPER_STEP_HEAD) bring(h, 0, 32);
         else if (stored != KEEPER_STEP_CLEAN) bring(h, cell_place(h, stored), 8);
     }

@@ -24,7 +24,7 @@
  *
  * What a call answers
  *   0 when it is done, else the number of the refusal, below. The order in which a call tests them stands at the call. A refused call
- *   changes nothing that it is lent but the value, which becomes 0 (most write the state's own numbers back into it); recovery start
+ *   changes nothing that it is lent but the value, which becomes 0, and the reason and entry (most write the state's own numbers back into it); recovery start
  *   alone writes seven zeros, which is no sound state.
  *     1 the state is not sound, or a length or the head is out of rule     7 a row isn't the entry that the call needs
  *     2 a row with the expected number doesn't read as an entry            8 the cell's last change isn't stored in the journal
@@ -32,6 +32,16 @@
  *     4 no such cell                                                      10 recovering; recovery step: not recovering
  *     5 no room in the journal                                            11 no such entry
  *     6 the entry numbers are used up                                     12 the counter: every cell of the span is empty
+ *
+ * What is wrong with a row
+ *   Beside 2 and 7 a call hands out why: *reason is the first thing wrong with the lowest row that is bad, and *entry the number of the
+ *   entry expected in that row. Beside every other answer, 0 included, both become 0. Reasons, in the order in which a row is judged:
+ *     1 too short            a row of its own, of less than 32 bytes      6 cell left in an end     a commit's or abort's cell is not 0
+ *     2 other number         the row has not the number of that entry     7 old left in an end      its old value is not 0
+ *     3 unknown kind         the kind is none of update, commit, abort    8 new left in an end      its new value is not 0
+ *     4 filler not zero      a byte that must be zero is not              9 not an update           abort, and begin in run: a commit
+ *     5 cell out of range    the cell is not below N                                                or an abort among the open rows
+ *   README.md says what the service desk does about each.
  *
  * Rules of use
  *   1. After power loss, and after format: recovery start, then recovery step until the phase is idle.
@@ -67,6 +77,18 @@ extern "C" {
 #define KEEPER_STEP_HEAD ((uint64_t)1 << 32)
 #define KEEPER_STEP_CLEAN (((uint64_t)1 << 32) + 1)
 
+/* The reasons. */
+#define KEEPER_NO_REASON 0u
+#define KEEPER_TOO_SHORT 1u
+#define KEEPER_OTHER_NUMBER 2u
+#define KEEPER_UNKNOWN_KIND 3u
+#define KEEPER_FILLER_NOT_ZERO 4u
+#define KEEPER_CELL_OUT_OF_RANGE 5u
+#define KEEPER_CELL_LEFT 6u
+#define KEEPER_OLD_LEFT 7u
+#define KEEPER_NEW_LEFT 8u
+#define KEEPER_NOT_AN_UPDATE 9u
+
 /* Format: an empty table of `cells` cells and an empty journal of `slots` rows. Recovery start gives the first state.
  * Refuses 1: cells, slots or the length out of rule. Stores the whole medium. Costs the medium's bytes, once. */
 uint32_t keeper_format(uint8_t *medium, size_t medium_len, uint32_t cells, uint32_t slots);
@@ -76,7 +98,8 @@ uint32_t keeper_format(uint8_t *medium, size_t medium_len, uint32_t cells, uint3
  * Costs the stored entries twice and the cells once; an entry of an aborted or unfinished transaction once more. */
 uint32_t keeper_recovery_start(const uint8_t *medium, size_t medium_len, uint64_t *current, size_t current_len,
                                uint32_t *first, size_t first_len, uint32_t *last, size_t last_len,
-                               const uint8_t *waiting, size_t waiting_len, uint32_t *state, size_t state_len);
+                               const uint8_t *waiting, size_t waiting_len, uint32_t *state, size_t state_len,
+                               uint32_t *reason, uint32_t *entry);
 
 /* Recovery step: *value is the cell that it stored, KEEPER_STEP_HEAD, or KEEPER_STEP_CLEAN. After the last two the phase is idle.
  * Refuses 1, 10. Stores the lowest cell whose stored value differs, else the head, else nothing. Costs the cells up to that one. */
@@ -87,7 +110,7 @@ uint32_t keeper_recovery_step(uint32_t *state, size_t state_len, uint8_t *medium
  * Refuses 1, 10, 7, 5, 6. Stores nothing. In idle it touches no row; in run it costs what abort does. */
 uint32_t keeper_begin(uint32_t *state, size_t state_len, uint64_t *current, size_t current_len,
                       uint32_t *first, size_t first_len, uint32_t *last, size_t last_len,
-                      uint8_t *waiting, size_t waiting_len);
+                      uint8_t *waiting, size_t waiting_len, uint32_t *reason, uint32_t *entry);
 
 /* Read: *value is the cell's value now. Refuses 1, 10, 3, 4. Stores nothing. Costs one cell. */
 uint32_t keeper_read(uint32_t *state, size_t state_len, uint32_t cell, const uint64_t *current, size_t current_len,
@@ -106,12 +129,12 @@ uint32_t keeper_commit(uint32_t *state, size_t state_len, uint8_t *waiting, size
  * Costs the transaction's rows twice: judged, then restored. */
 uint32_t keeper_abort(uint32_t *state, size_t state_len, uint64_t *current, size_t current_len,
                       uint32_t *first, size_t first_len, uint32_t *last, size_t last_len,
-                      uint8_t *waiting, size_t waiting_len);
+                      uint8_t *waiting, size_t waiting_len, uint32_t *reason, uint32_t *entry);
 
 /* Force: *value is the number of the entry that it stored, the lowest that is not, or 0 where all are stored.
  * Refuses 1, 10, 7. Stores that entry's row or nothing. Costs one row. */
 uint32_t keeper_force(uint32_t *state, size_t state_len, uint8_t *medium, size_t medium_len,
-                      const uint8_t *waiting, size_t waiting_len, uint64_t *value);
+                      const uint8_t *waiting, size_t waiting_len, uint64_t *value, uint32_t *reason, uint32_t *entry);
 
 /* Write-back: *value is 1 where the cell was stored, 0 where it had not changed. Refuses 1, 10, 4, 8. Stores that cell or nothing.
  * Costs one cell. */
@@ -122,7 +145,7 @@ uint32_t keeper_write_back(uint32_t *state, size_t state_len, uint32_t cell, uin
 /* Cut: drops the entries up to p, so that their rows are free. p is the number of a stored commit or abort, or h itself, and no cell
  * has a change up to p that is not written back. Refuses 1, 10, 9, 7, 9. Stores the head. Costs one row and the cells' `first`. */
 uint32_t keeper_cut(uint32_t *state, size_t state_len, uint32_t p, uint8_t *medium, size_t medium_len,
-                    const uint32_t *first, size_t first_len);
+                    const uint32_t *first, size_t first_len, uint32_t *reason, uint32_t *entry);
 
 /* Look: *value is where entry n's 32 bytes begin, an offset into `medium` when n <= f (state[3]), else into `waiting`; nothing is
  * copied. Refuses 1, 10, 11. Stores nothing. Reads no row. */
@@ -134,8 +157,8 @@ uint32_t keeper_look(const uint32_t *state, size_t state_len, uint32_t n, const 
 uint32_t keeper_table_view(const uint8_t *medium, size_t medium_len, uint64_t *value);
 
 /* Read row: what a row's first 32 bytes read as, as entry `number` of a table of `cells` cells: 0 nothing, 1 an update, 2 a commit,
- * 3 an abort. The four fields become cell, old, new, 0 of an update, else zeros. Of another count of fields nothing is written and the
- * answer is 0. */
+ * 3 an abort. The first three fields become cell, old and new of an update, else zeros; the fourth the reason where it reads as nothing,
+ * else 0. Of another count of fields nothing is written and the answer is 0. */
 uint32_t keeper_read_row(const uint8_t *row, size_t row_len, uint32_t cells, uint32_t number,
                          uint64_t *fields, size_t fields_len);
 

@@ -5,7 +5,7 @@
 //! call). The two keepers' samples alternate and are short, so that what else the machine does falls on few of them; what is
 //! reported is the median of each keeper's samples and the median of the ratios of neighbouring ones.
 
-use crate::keeper::Keeper;
+use crate::keeper::{BadRow, Keeper};
 use crate::layout::*;
 use crate::rng::Rng;
 use crate::state::NUMBERS;
@@ -155,7 +155,7 @@ fn nothing(state: &mut [u32]) -> u32 {
 /// One round: the call on every state of the ring. Answers the numbers of all calls or-ed, but of reading a row.
 fn round<K: Keeper>(keeper: &K, op: Op, rig: &mut Rig) -> u32 {
     let Rig { medium, current, first, last, waiting, start, ring, cells, row } = rig;
-    let (mut value, mut fields, mut refused) = (0, [0; 4], 0);
+    let (mut value, mut bad, mut fields, mut refused) = (0, BadRow::default(), [0; 4], 0);
     ring.fill(*start);
     let (slots, h) = (start[1], start[2]);
     macro_rules! each {
@@ -170,32 +170,34 @@ fn round<K: Keeper>(keeper: &K, op: Op, rig: &mut Rig) -> u32 {
         Op::Nothing => each!(|state, cell| nothing(state)),
         Op::Format => each!(|state, cell| keeper.format(medium, state[0], state[1])),
         Op::StartFull | Op::StartEmpty => {
-            each!(|state, cell| keeper.recovery_start(medium, current, first, last, waiting, state))
+            each!(|state, cell| keeper.recovery_start(medium, current, first, last, waiting, state, &mut bad))
         }
         Op::StepCell => each!(|state, cell| {
             *current.last_mut().unwrap() ^= 1;
             keeper.recovery_step(state, medium, current, &mut value)
         }),
         Op::StepHead => each!(|state, cell| keeper.recovery_step(state, medium, current, &mut value)),
-        Op::Begin | Op::BeginInRun => each!(|state, cell| keeper.begin(state, current, first, last, waiting)),
+        Op::Begin | Op::BeginInRun => each!(|state, cell| keeper.begin(state, current, first, last, waiting, &mut bad)),
         Op::Read => each!(|state, cell| keeper.read(state, cell, current, &mut value)),
         Op::Write => {
             each!(|state, cell| keeper.write(state, cell, cell as u64, current, first, last, waiting))
         }
         Op::Commit => each!(|state, cell| keeper.commit(state, waiting, &mut value)),
-        Op::AbortOne | Op::AbortFull => each!(|state, cell| keeper.abort(state, current, first, last, waiting)),
-        Op::Force => each!(|state, cell| keeper.force(state, medium, waiting, &mut value)),
+        Op::AbortOne | Op::AbortFull => {
+            each!(|state, cell| keeper.abort(state, current, first, last, waiting, &mut bad))
+        }
+        Op::Force => each!(|state, cell| keeper.force(state, medium, waiting, &mut value, &mut bad)),
         Op::WriteBack => each!(|state, cell| {
             first[cell as usize] = 1;
             keeper.write_back(state, cell, medium, current, first, last, &mut value)
         }),
-        Op::Cut => each!(|state, cell| keeper.cut(state, h + 1, medium, first)),
+        Op::Cut => each!(|state, cell| keeper.cut(state, h + 1, medium, first, &mut bad)),
         Op::Look => each!(|state, cell| keeper.look(state, h + 1, medium, waiting, &mut value)),
         Op::TableView => each!(|state, cell| keeper.table_view(medium, &mut value)),
         Op::ReadRow => each!(|state, cell| keeper.read_row(row, slots.max(1024), 7, &mut fields) - 1),
         Op::WriteRow => each!(|state, cell| keeper.write_row(row, 7, 1, cell, value, 5)),
     }
-    black_box((value, fields));
+    black_box((value, bad, fields));
     refused
 }
 

@@ -1,6 +1,6 @@
 //! A desk: everything that a keeper's calls are lent, and a call made on it.
 
-use crate::keeper::Keeper;
+use crate::keeper::{BadRow, Keeper};
 use crate::layout::{medium_len, ROW};
 use crate::rng::Rng;
 use crate::state::{State, NUMBERS};
@@ -57,11 +57,12 @@ pub enum Call {
     WriteRow { number: u32, kind: u32, cell: u32, old: u64, new: u64 },
 }
 
-/// What a call answers: its number, its value (0 where it has none) and the fields of a row read.
+/// What a call answers: its number, its value, the bad row it names and the fields of a row read.
 #[derive(Clone, Copy, Debug, PartialEq, Eq)]
 pub struct Answer {
     pub number: u32,
     pub value: u64,
+    pub bad: BadRow,
     pub fields: [u64; 4],
 }
 
@@ -71,6 +72,11 @@ impl fmt::Display for Answer {
         if self.value != UNWRITTEN {
             write!(out, " value {}", self.value)?;
         }
+        if self.bad == BadRow::default() {
+            write!(out, ", no row named")?;
+        } else if self.bad != UNNAMED {
+            write!(out, ", reason {}, {}", self.bad.reason, self.bad)?;
+        }
         if self.fields != [UNWRITTEN; 4] {
             write!(out, " fields {:?}", self.fields)?;
         }
@@ -78,8 +84,9 @@ impl fmt::Display for Answer {
     }
 }
 
-/// What a value or a field is before the call, so that one left unwritten shows.
+/// What a value, a field or a named row is before the call, so that one left unwritten shows.
 const UNWRITTEN: u64 = 0xa5a5_a5a5_a5a5_a5a5;
+const UNNAMED: BadRow = BadRow { reason: UNWRITTEN as u32, entry: UNWRITTEN as u32 };
 
 impl Desk {
     /// A desk for sizes in rule, all of it rubbish (of 0: zeros).
@@ -188,25 +195,25 @@ impl Desk {
         let state = &mut self.state[..state_len];
         let row_len = len(Buffer::Row, self.row.len());
         let row = &mut self.row[..row_len];
-        let (mut value, mut fields) = (UNWRITTEN, [UNWRITTEN; 4]);
+        let (mut value, mut bad, mut fields) = (UNWRITTEN, UNNAMED, [UNWRITTEN; 4]);
         let number = match call {
             Call::Format { cells, slots } => keeper.format(medium, cells, slots),
-            Call::RecoveryStart => keeper.recovery_start(medium, current, first, last, waiting, state),
+            Call::RecoveryStart => keeper.recovery_start(medium, current, first, last, waiting, state, &mut bad),
             Call::RecoveryStep => keeper.recovery_step(state, medium, current, &mut value),
-            Call::Begin => keeper.begin(state, current, first, last, waiting),
+            Call::Begin => keeper.begin(state, current, first, last, waiting, &mut bad),
             Call::Read { cell } => keeper.read(state, cell, current, &mut value),
             Call::Write { cell, value } => keeper.write(state, cell, value, current, first, last, waiting),
             Call::Commit => keeper.commit(state, waiting, &mut value),
-            Call::Abort => keeper.abort(state, current, first, last, waiting),
-            Call::Force => keeper.force(state, medium, waiting, &mut value),
+            Call::Abort => keeper.abort(state, current, first, last, waiting, &mut bad),
+            Call::Force => keeper.force(state, medium, waiting, &mut value, &mut bad),
             Call::WriteBack { cell } => keeper.write_back(state, cell, medium, current, first, last, &mut value),
-            Call::Cut { p } => keeper.cut(state, p, medium, first),
+            Call::Cut { p } => keeper.cut(state, p, medium, first, &mut bad),
             Call::Look { n } => keeper.look(state, n, medium, waiting, &mut value),
             Call::TableView => keeper.table_view(medium, &mut value),
             Call::ReadRow { cells, number } => keeper.read_row(row, cells, number, &mut fields),
             Call::WriteRow { number, kind, cell, old, new } => keeper.write_row(row, number, kind, cell, old, new),
         };
-        Answer { number, value, fields }
+        Answer { number, value, bad, fields }
     }
 
     /// The first place where two desks differ, in words.

@@ -1,9 +1,12 @@
-//! Directed histories: document 01's sessions, the largest sizes to their brim, and the last entry numbers.
+//! Directed histories: document 01's sessions, the largest sizes to their brim, the last entry numbers, and every two flaws in
+//! one row.
 
 use crate::desk::{Buffer, Call};
 use crate::event::Event;
 use crate::layout::{slot_of, write_row, Entry, M, ROW};
 use crate::play::Opening;
+use crate::spoil::{plain_row, spoiled, FLAWS};
+use crate::state::{Phase, State};
 
 /// Part 40017 release 1.9.
 pub const A: u64 = 40017 | 1 << 32 | 9 << 48;
@@ -54,6 +57,7 @@ pub fn all() -> Vec<Directed> {
         last_numbers(),
         no_numbers(),
         broken_row(),
+        flawed_rows(),
         other_sizes(),
     ]
 }
@@ -146,6 +150,26 @@ fn broken_row() -> Directed {
     }
     d.events.push(Event::Row { buffer: Buffer::Medium, slot: slot_of(7, 4), row: [0; ROW] });
     d.recover(2);
+    d
+}
+
+/// Each two flaws in one row, and the same two in the row after it, for every call that reads rows.
+fn flawed_rows() -> Directed {
+    let mut d = Directed::new("two flaws", 3, 8, 13);
+    let state = State { cells: 3, slots: 8, h: 13, f: 15, l: 18, o: 15, phase: Phase::Run };
+    let pairs = FLAWS.into_iter().flat_map(|a| FLAWS.map(|b| [a, b]));
+    for (flaws, salt) in pairs.zip(0..) {
+        let row = |number, bad: bool| if bad { spoiled(number, flaws, 3, salt) } else { plain_row(number) };
+        let place = |buffer, number, row| Event::Row { buffer, slot: slot_of(number, 8), row };
+        d.events.extend([14, 15, 16].map(|n| place(Buffer::Medium, n, row(n, n > 14))));
+        d.events.extend([16, 17, 18].map(|n| place(Buffer::Waiting, n, row(n, n > 16))));
+        d.events.extend([Event::Head { h: 13 }, Event::State(state.numbers())]);
+        d.calls([Call::Cut { p: 15 }, Call::Abort, Call::Begin]);
+        d.events.push(place(Buffer::Waiting, 16, row(16, true)));
+        d.calls([Call::Force, Call::Abort, Call::RecoveryStart]);
+        d.events.push(Event::Row { buffer: Buffer::Row, slot: 0, row: row(17, true) });
+        d.calls([Call::ReadRow { cells: 3, number: 17 }]);
+    }
     d
 }
 

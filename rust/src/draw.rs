@@ -6,6 +6,7 @@ use crate::event::Event;
 use crate::layout::{read_row, slot_of, word4, write_row, Entry, Row, CELL, HEAD, LEAST_SLOTS, M, ROW};
 use crate::play::Opening;
 use crate::rng::Rng;
+use crate::spoil::{spoil, FLAWS};
 use crate::state::{Phase, State, NUMBERS};
 use std::collections::VecDeque;
 
@@ -338,7 +339,7 @@ impl Draw {
                 return state.h;
             }
             let row = &desk.medium[HEAD + ROW * slot_of(p, desk.slots)..];
-            if !matches!(read_row(row, state.cells, p), Some(Entry::Update { .. })) {
+            if !matches!(read_row(row, state.cells, p), Ok(Entry::Update { .. })) {
                 return p;
             }
             p -= 1;
@@ -363,7 +364,7 @@ impl Draw {
 
     // ---- damage
 
-    /// A row of entry `number`; `flawed` in a hundred are wrong somewhere.
+    /// A row of entry `number`; `flawed` in a hundred are spoiled.
     fn row(&mut self, number: u32, cells: u32, flawed: u64) -> Row {
         let entry = match self.rng.below(10) {
             0..7 => {
@@ -385,18 +386,22 @@ impl Draw {
         row
     }
 
+    /// One or two flaws of any kind, a byte changed anywhere, or an update that becomes an end with all that it had.
     fn spoil(&mut self, row: &mut Row, cells: u32) {
-        match self.rng.below(6) {
-            0 => row[4] = self.rng.pick(&[0, 4, 5, 255]),
-            1 => row[8..12].copy_from_slice(&(cells + self.rng.below(2) as u32).to_le_bytes()),
-            2 => row[self.rng.pick(&[5, 6, 7, 12, 13, 14, 15])] = 1 << self.rng.below(8),
-            3 => row[4] = self.rng.pick(&[2, 3]),
-            4 => row[..4].fill(0),
-            _ => row[self.rng.index(ROW)] ^= 1 << self.rng.below(8),
+        match self.rng.below(8) {
+            0 => row[self.rng.index(ROW)] ^= 1 << self.rng.below(8),
+            1 => row[4] = self.rng.pick(&[2, 3]),
+            _ => {
+                let (a, b) = (self.rng.pick(&FLAWS), self.rng.pick(&FLAWS));
+                if self.rng.percent(40) {
+                    spoil(row, a.max(b), cells, self.rng.word());
+                }
+                spoil(row, a.min(b), cells, self.rng.word());
+            }
         }
     }
 
-    /// A journal from h+1 on, on a table with something in it. The journal ends by a stale row, a spoiled one, or a turn.
+    /// A journal from h+1 on, on a table with something in it. The journal ends by a stale row, spoiled ones, or a turn.
     fn journal(&mut self, h: u32) {
         let Opening { cells, slots, .. } = self.opening;
         for _ in 0..self.rng.below(6) {
@@ -405,9 +410,9 @@ impl Draw {
         }
         let most = slots.min(M - h);
         let made = if self.rng.percent(30) { most } else { self.rng.between(0, most) };
-        let spoiled = if self.rng.percent(20) { self.rng.between(0, made) } else { M };
+        let spoiled = if self.rng.percent(30) { self.rng.between(0, made) } else { M };
         for k in 0..made {
-            let flawed = if k == spoiled { 100 } else { 0 };
+            let flawed = if k < spoiled { 0 } else { 50 };
             let row = self.row(h + k + 1, cells, flawed);
             self.queue.push_back(Event::Row { buffer: Buffer::Medium, slot: slot_of(h + k + 1, slots), row });
         }
@@ -512,6 +517,10 @@ impl Draw {
             let row = self.row(number, state.cells, flawed);
             self.queue.push_back(Event::Row { buffer: Buffer::Medium, slot: slot_of(number, state.slots), row });
             self.queue.push_back(Event::call(Call::Cut { p: number }));
+        }
+        if flawed > 0 {
+            let calls = [Call::Force, self.rng.pick(&[Call::Abort, Call::Begin])];
+            self.queue.extend(calls.map(Event::call));
         }
         for _ in 0..1 + self.rng.below(3) {
             let lend = self.rng.percent(10).then(|| self.wrong_length(desk));

@@ -1,8 +1,9 @@
-//! Document 01's "Ways it has gone wrong", each to be put into the second program alone. The comparison must find every one.
+//! Document 01's "Ways it has gone wrong", and ways to name a bad row wrongly, each to be put into the second program alone.
+//! The comparison must find every one.
 //!
 //! The calls that can go wrong take the way as a constant, so that the sound program pays nothing for the switch.
 
-use crate::layout::{number_in, read_row, Entry, Head, Row};
+use crate::layout::{number_in, read_row, word4, Entry, Flaw, Head, Row, M};
 use crate::second::turn;
 
 #[derive(Clone, Copy, Debug, PartialEq, Eq)]
@@ -21,7 +22,38 @@ pub enum Fault {
     HeadEarly,
     /// Cutting just after an update.
     CutAtUpdate,
+    /// Asking for a cell out of range before filler.
+    CellBeforeFiller,
+    /// Not asking a commit or abort for a cell out of range.
+    EndCellUnasked,
+    /// Asking first whether an open row is an update: left-overs in an end entry go unsaid.
+    NotAnUpdateEarly,
+    /// Abort and begin name the highest bad row.
+    HighestOpen,
+    /// Recovery start names the highest bad row.
+    HighestStored,
+    /// The last good entry's number in place of the one expected.
+    EntryOffByOne,
+    /// Cut names a row beside 9.
+    BesideNine,
+    /// With no state of seven numbers, reason and entry stay as they were.
+    LeftUnwritten,
 }
+
+/// The ways of document 01.
+pub const OF_THE_PAPER: [Fault; 6] =
+    [Fault::ByLabel, Fault::CommittedOnly, Fault::RisingUndo, Fault::BackByFirst, Fault::HeadEarly, Fault::CutAtUpdate];
+/// The ways to name a bad row wrongly.
+pub const OF_NAMING: [Fault; 8] = [
+    Fault::CellBeforeFiller,
+    Fault::EndCellUnasked,
+    Fault::NotAnUpdateEarly,
+    Fault::HighestOpen,
+    Fault::HighestStored,
+    Fault::EntryOffByOne,
+    Fault::BesideNine,
+    Fault::LeftUnwritten,
+];
 
 pub const NONE: u8 = Fault::None as u8;
 pub const BY_LABEL: u8 = Fault::ByLabel as u8;
@@ -30,14 +62,22 @@ pub const RISING_UNDO: u8 = Fault::RisingUndo as u8;
 pub const BACK_BY_FIRST: u8 = Fault::BackByFirst as u8;
 pub const HEAD_EARLY: u8 = Fault::HeadEarly as u8;
 pub const CUT_AT_UPDATE: u8 = Fault::CutAtUpdate as u8;
+pub const CELL_BEFORE_FILLER: u8 = Fault::CellBeforeFiller as u8;
+pub const END_CELL_UNASKED: u8 = Fault::EndCellUnasked as u8;
+pub const NOT_AN_UPDATE_EARLY: u8 = Fault::NotAnUpdateEarly as u8;
+pub const HIGHEST_OPEN: u8 = Fault::HighestOpen as u8;
+pub const HIGHEST_STORED: u8 = Fault::HighestStored as u8;
+pub const ENTRY_OFF_BY_ONE: u8 = Fault::EntryOffByOne as u8;
+pub const BESIDE_NINE: u8 = Fault::BesideNine as u8;
+pub const LEFT_UNWRITTEN: u8 = Fault::LeftUnwritten as u8;
 
 /// The committed updates of entries h+1 to e, in order of number.
 fn committed(rows: &[Row], head: &Head, e: u32) -> Vec<(usize, u64)> {
     let (mut done, mut open) = (Vec::new(), Vec::new());
     for row in turn(rows, head.h, e) {
         match read_row(row, head.cells, number_in(row)) {
-            Some(Entry::Update { cell, new, .. }) => open.push((cell as usize, new)),
-            Some(Entry::Commit) => done.append(&mut open),
+            Ok(Entry::Update { cell, new, .. }) => open.push((cell as usize, new)),
+            Ok(Entry::Commit) => done.append(&mut open),
             _ => open.clear(),
         }
     }
@@ -58,4 +98,22 @@ pub fn replay_by_label(rows: &[Row], head: &Head, e: u32, current: &mut [u64]) {
     for (cell, new) in updates {
         current[cell] = new;
     }
+}
+
+/// The flaw and the entry that are said of the lowest bad row.
+pub fn named<const FAULT: u8>(flaw: Flaw, row: &Row, cells: u32, entry: u32) -> (Flaw, u32) {
+    let end = matches!(row[4], 2 | 3);
+    match (FAULT, flaw) {
+        (CELL_BEFORE_FILLER, Flaw::FillerNotZero) if word4(row, 8) >= cells => (Flaw::CellOutOfRange, entry),
+        (END_CELL_UNASKED, Flaw::CellOutOfRange) if end => (Flaw::CellLeft, entry),
+        (ENTRY_OFF_BY_ONE, _) => (flaw, entry - 1),
+        _ => (flaw, entry),
+    }
+}
+
+/// The way `HighestStored`: the last row of the stored journal that doesn't read.
+pub fn highest_stored<'a>(rows: &'a [Row], head: &Head) -> (Flaw, &'a Row, u32) {
+    let stored = turn(rows, head.h, M).zip(head.h..M).take_while(|(row, n)| number_in(row) == n + 1);
+    let flawed = |(row, n): (&'a Row, u32)| read_row(row, head.cells, n + 1).err().map(|flaw| (flaw, row, n + 1));
+    stored.filter_map(flawed).last().unwrap()
 }

@@ -1,12 +1,14 @@
-//! What a run has reached: every call with every refusal that the papers allow it, every kind of answer, and every lent
-//! buffer with a wrong length. A run that missed one has not compared what it was to compare.
+//! What a run has reached: every call with every refusal that the papers allow it and every reason beside it, every kind of
+//! answer, and every lent buffer with a wrong length. A run that missed one has not compared what it was to compare.
 
 use crate::desk::Buffer::{self, Current, First, Last, Medium, Row, State as Numbers, Waiting};
 use crate::desk::{Answer, Call, Desk, BUFFERS};
 use crate::keeper::{STEP_CLEAN, STEP_HEAD};
-use crate::layout::{read_row, slot_of, Entry, HEAD, M, ROW};
+use crate::layout::{self, number_in, read_row, rows, slot_of, word4, Entry, Head, HEAD, M, REASONS, ROW};
+use crate::second::turn;
 use crate::state::{Phase, State};
 use std::fmt::Write;
+use std::ops::Range;
 
 /// A call's name, its allowed answers and the buffers it is lent.
 struct Line {
@@ -33,8 +35,20 @@ const LINES: [Line; 15] = [
     Line { name: "write row", numbers: &[0, 1], lent: &[Row] },
 ];
 
+/// The reasons that a call can give. Rows in their places are never too short, recovery start reads those with the number, and
+/// only open rows have to be updates.
+fn reasons(call: usize) -> Range<usize> {
+    match LINES[call].name {
+        "recovery start" => 3..9,
+        "begin" | "abort" => 2..10,
+        "force" | "cut" => 2..9,
+        "read row" => 1..9,
+        _ => 0..0,
+    }
+}
+
 /// Kinds of answer that one number doesn't tell apart.
-const CASES: [&str; 25] = [
+const CASES: [&str; 28] = [
     "recovery step: a cell",
     "recovery step: the head",
     "recovery step: clean",
@@ -58,6 +72,9 @@ const CASES: [&str; 25] = [
     "look: in the medium",
     "look: in the waiting rows",
     "an entry M made or stored",
+    "open rows, two bad ones: 7",
+    "stored rows, two bad ones: 2",
+    "a row with two flaws: 2, 7",
     "an unsound state: 1",
     "a phase that is none: 1",
 ];
@@ -66,6 +83,7 @@ const NUMBERS: usize = 12;
 
 pub struct Hits {
     answers: [[u64; NUMBERS]; LINES.len()],
+    reasons: [[u64; REASONS.len()]; LINES.len()],
     lengths: [[u64; BUFFERS.len()]; LINES.len()],
     cases: [u64; CASES.len()],
     odd: Vec<String>,
@@ -95,6 +113,7 @@ impl Default for Hits {
     fn default() -> Self {
         Hits {
             answers: [[0; NUMBERS]; LINES.len()],
+            reasons: [[0; REASONS.len()]; LINES.len()],
             lengths: [[0; BUFFERS.len()]; LINES.len()],
             cases: [0; CASES.len()],
             odd: Vec::new(),
@@ -120,6 +139,13 @@ impl Hits {
             return;
         }
         self.answers[at][answer.number as usize] += 1;
+        if let Some(reason) = reason_of(made.call, answer) {
+            if !reasons(at).contains(&reason) {
+                self.odd.push(format!("{} answered {} with reason {reason}", made.call, answer.number));
+                return;
+            }
+            self.reasons[at][reason] += 1;
+        }
         if let Some((buffer, len)) = made.lend {
             let stateless = !line.lent.contains(&Numbers) || made.call == Call::RecoveryStart;
             let wrong = len != desk.proper_len(buffer) && line.lent.contains(&buffer);
@@ -139,6 +165,8 @@ impl Hits {
         for (at, line) in LINES.iter().enumerate() {
             let numbers = line.numbers.iter().filter(|&&number| self.answers[at][number as usize] == 0);
             missed.extend(numbers.map(|number| format!("{}: {number}", line.name)));
+            let unsaid = reasons(at).filter(|&reason| self.reasons[at][reason] == 0);
+            missed.extend(unsaid.map(|reason| format!("{}: reason {reason}, {}", line.name, REASONS[reason])));
             let lent = line.lent.iter().filter(|&&buffer| self.lengths[at][buffer as usize] == 0);
             missed.extend(lent.map(|buffer| format!("{} lent a wrong length of {buffer:?}", line.name)));
         }
@@ -160,6 +188,7 @@ impl Hits {
                 }
             }
         }
+        self.reason_table(&mut text);
         write!(text, "\n\n{:16}", "wrong length").unwrap();
         BUFFERS.iter().for_each(|buffer| write!(text, "{:>9}", format!("{buffer:?}")).unwrap());
         for (at, line) in LINES.iter().enumerate() {
@@ -178,12 +207,40 @@ impl Hits {
         }
         text
     }
+
+    fn reason_table(&self, text: &mut String) {
+        write!(text, "\n\n{:16}", "call \\ reason").unwrap();
+        (1..REASONS.len()).for_each(|reason| write!(text, "{reason:>9}").unwrap());
+        for (at, line) in LINES.iter().enumerate().filter(|(at, _)| !reasons(*at).is_empty()) {
+            write!(text, "\n{:16}", line.name).unwrap();
+            for reason in 1..REASONS.len() {
+                if reasons(at).contains(&reason) {
+                    write!(text, "{:>9}", self.reasons[at][reason]).unwrap();
+                } else {
+                    write!(text, "{:>9}", ".").unwrap();
+                }
+            }
+        }
+    }
+}
+
+/// The reason that an answer must give, if it must: beside 2 and 7, and where a row alone reads as nothing.
+fn reason_of(call: Call, answer: Answer) -> Option<usize> {
+    match (call, answer.number) {
+        (Call::ReadRow { .. }, 0) => Some(answer.fields[3] as usize),
+        (Call::ReadRow { .. }, _) => None,
+        (_, 2 | 7) => Some(answer.bad.reason as usize),
+        _ => None,
+    }
 }
 
 /// Which of `CASES` a call is, if any.
 fn case_of(made: &Made, answer: Answer, desk: &Desk) -> Option<&'static str> {
     if takes_state(made.call) && made.lend.is_none() && made.state.is_none() {
         return Some(if made.phase > 2 { "a phase that is none: 1" } else { "an unsound state: 1" });
+    }
+    if let (Call::RecoveryStart, 2) = (made.call, answer.number) {
+        return bad_stored(answer.bad.entry, desk);
     }
     let state = made.state?;
     let run = state.phase == Phase::Run;
@@ -196,6 +253,7 @@ fn case_of(made: &Made, answer: Answer, desk: &Desk) -> Option<&'static str> {
         (Call::Begin, 0) => Some(if run { "begin in run: 0" } else { "begin in idle: 0" }),
         (Call::Begin, 5) => Some(if run { "begin in run: 5" } else { "begin in idle: 5" }),
         (Call::Begin, 6) => Some(if run { "begin in run: 6" } else { "begin in idle: 6" }),
+        (Call::Begin | Call::Abort, 7) => bad_open(answer.bad.entry, &state, desk),
         (Call::Abort, 0) => Some(if run { "abort in run: 0" } else { "abort in idle: 0" }),
         (Call::Commit | Call::Force, 0) if answer.value == M as u64 => Some("an entry M made or stored"),
         (Call::Force, 0) => Some(if answer.value == 0 { "force: nothing left" } else { "force: an entry" }),
@@ -217,11 +275,48 @@ fn why_no_cut(state: &State, p: u32, desk: &Desk) -> &'static str {
     }
     let update = p != state.h && {
         let row = &desk.medium[HEAD + ROW * slot_of(p, state.slots)..];
-        matches!(read_row(row, state.cells, p), Some(Entry::Update { .. }))
+        matches!(read_row(row, state.cells, p), Ok(Entry::Update { .. }))
     };
     if update {
         "cut, an update: 9"
     } else {
         "cut, a first: 9"
     }
+}
+
+/// Refusal 7 of abort and begin, which name an entry.
+fn bad_open(entry: u32, state: &State, desk: &Desk) -> Option<&'static str> {
+    let waiting: &[layout::Row] = desk.waiting.as_chunks().0;
+    let row = |number: u32| &waiting[slot_of(number, state.slots)];
+    let bad = |number: u32| !matches!(read_row(row(number), state.cells, number), Ok(Entry::Update { .. }));
+    if (entry..state.l).any(|n| bad(n + 1)) {
+        return Some("open rows, two bad ones: 7");
+    }
+    two_flaws(row(entry), state.cells, entry)
+}
+
+/// Refusal 2 of recovery start, which names an entry.
+fn bad_stored(entry: u32, desk: &Desk) -> Option<&'static str> {
+    let Head { cells, slots, h } = Head::of(desk.lent_medium())?;
+    let rows = rows(desk.lent_medium(), slots);
+    let mut stored = turn(rows, h, M).zip(h..M).take_while(|(row, n)| number_in(row) == n + 1);
+    if stored.any(|(row, n)| n >= entry && read_row(row, cells, n + 1).is_err()) {
+        return Some("stored rows, two bad ones: 2");
+    }
+    two_flaws(&rows[slot_of(entry, slots)], cells, entry)
+}
+
+fn two_flaws(row: &layout::Row, cells: u32, number: u32) -> Option<&'static str> {
+    let cell = word4(row, 8);
+    let end_with = |at: usize, len: usize| matches!(row[4], 2 | 3) && row[at..at + len].iter().any(|&byte| byte != 0);
+    let flaws = [
+        number_in(row) != number,
+        !(1..=3).contains(&row[4]),
+        row[5..8] != [0; 3] || row[12..16] != [0; 4],
+        cell >= cells,
+        cell < cells && end_with(8, 4),
+        end_with(16, 8),
+        end_with(24, 8),
+    ];
+    (flaws.iter().filter(|&&flaw| flaw).count() > 1).then_some("a row with two flaws: 2, 7")
 }

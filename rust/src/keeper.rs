@@ -2,17 +2,46 @@
 //!
 //! The state is a lent slice of seven numbers, the answer is the refusal number (0 is done), and a value goes out through a
 //! reference, 0 on refusal. A refused call leaves the state as it was, but a refused recovery start writes seven zeros to a
-//! state of seven numbers.
+//! state of seven numbers. A call that reads rows writes which one is bad, with every answer.
 
 use crate::fault::{self, Fault};
-use crate::layout::{self, Entry, Row};
-use crate::second::{self, Place, Refusal, Step, Work, OUT_OF_RULE};
+use crate::layout::{self, Entry, Row, REASONS};
+use crate::second::{self, Place, Refusal, Refused, Step, Work, OUT_OF_RULE};
 use crate::state::{State, NUMBERS};
+use std::fmt;
 
 /// The value of a recovery step that stored the head.
 pub const STEP_HEAD: u64 = 1 << 32;
 /// The value of a recovery step that stored nothing.
 pub const STEP_CLEAN: u64 = STEP_HEAD + 1;
+
+/// The lowest bad row, beside refusals 2 and 7; zeros beside every other answer.
+#[derive(Clone, Copy, Debug, Default, PartialEq, Eq)]
+pub struct BadRow {
+    /// The number of the first thing wrong with it.
+    pub reason: u32,
+    /// The number of the entry expected in it.
+    pub entry: u32,
+}
+
+impl BadRow {
+    /// Writes the row that a refusal names, if any, and answers the refusal's number.
+    #[inline(always)]
+    fn name(&mut self, refused: Refused) -> Refusal {
+        if let Some((flaw, entry)) = refused.row {
+            *self = BadRow { reason: flaw as u32, entry };
+        }
+        refused.number
+    }
+}
+
+/// The line for people.
+impl fmt::Display for BadRow {
+    fn fmt(&self, out: &mut fmt::Formatter) -> fmt::Result {
+        let reason = REASONS.get(self.reason as usize).unwrap_or(&"no such reason");
+        write!(out, "entry {}: {reason}", self.entry)
+    }
+}
 
 #[allow(clippy::too_many_arguments)]
 pub trait Keeper {
@@ -25,6 +54,7 @@ pub trait Keeper {
         last: &mut [u32],
         waiting: &[u8],
         state: &mut [u32],
+        bad: &mut BadRow,
     ) -> u32;
     /// The value is c for cell c, else `STEP_HEAD` or `STEP_CLEAN`.
     fn recovery_step(&self, state: &mut [u32], medium: &mut [u8], current: &[u64], value: &mut u64) -> u32;
@@ -35,6 +65,7 @@ pub trait Keeper {
         first: &mut [u32],
         last: &mut [u32],
         waiting: &mut [u8],
+        bad: &mut BadRow,
     ) -> u32;
     fn read(&self, state: &mut [u32], cell: u32, current: &[u64], value: &mut u64) -> u32;
     fn write(
@@ -55,8 +86,9 @@ pub trait Keeper {
         first: &mut [u32],
         last: &mut [u32],
         waiting: &mut [u8],
+        bad: &mut BadRow,
     ) -> u32;
-    fn force(&self, state: &mut [u32], medium: &mut [u8], waiting: &[u8], value: &mut u64) -> u32;
+    fn force(&self, state: &mut [u32], medium: &mut [u8], waiting: &[u8], value: &mut u64, bad: &mut BadRow) -> u32;
     /// The value is 1 for stored, 0 for clean.
     fn write_back(
         &self,
@@ -68,12 +100,13 @@ pub trait Keeper {
         last: &[u32],
         value: &mut u64,
     ) -> u32;
-    fn cut(&self, state: &mut [u32], p: u32, medium: &mut [u8], first: &[u32]) -> u32;
+    fn cut(&self, state: &mut [u32], p: u32, medium: &mut [u8], first: &[u32], bad: &mut BadRow) -> u32;
     /// The value is the offset of the 32 bytes: in the medium where n <= f, else in the waiting rows.
     fn look(&self, state: &[u32], n: u32, medium: &[u8], waiting: &[u8], value: &mut u64) -> u32;
     /// The value is the offset of the table, which is the rest of the medium.
     fn table_view(&self, medium: &[u8], value: &mut u64) -> u32;
-    /// 0 nothing, else the kind. The fields become cell, old, new, 0 of an update, else zeros.
+    /// 0 nothing, else the kind. The fields become cell, old, new, 0 of an update; of nothing 0, 0, 0 and the number of the
+    /// first thing wrong; else zeros.
     fn read_row(&self, row: &[u8], cells: u32, number: u32, fields: &mut [u64; 4]) -> u32;
     /// Writes the first 32 bytes, or answers 1 where they would not be a row.
     fn write_row(&self, row: &mut [u8], number: u32, kind: u32, cell: u32, old: u64, new: u64) -> u32;
@@ -92,6 +125,14 @@ pub fn second(fault: Fault) -> &'static dyn Keeper {
         Fault::BackByFirst => &Second::<{ fault::BACK_BY_FIRST }>,
         Fault::HeadEarly => &Second::<{ fault::HEAD_EARLY }>,
         Fault::CutAtUpdate => &Second::<{ fault::CUT_AT_UPDATE }>,
+        Fault::CellBeforeFiller => &Second::<{ fault::CELL_BEFORE_FILLER }>,
+        Fault::EndCellUnasked => &Second::<{ fault::END_CELL_UNASKED }>,
+        Fault::NotAnUpdateEarly => &Second::<{ fault::NOT_AN_UPDATE_EARLY }>,
+        Fault::HighestOpen => &Second::<{ fault::HIGHEST_OPEN }>,
+        Fault::HighestStored => &Second::<{ fault::HIGHEST_STORED }>,
+        Fault::EntryOffByOne => &Second::<{ fault::ENTRY_OFF_BY_ONE }>,
+        Fault::BesideNine => &Second::<{ fault::BESIDE_NINE }>,
+        Fault::LeftUnwritten => &Second::<{ fault::LEFT_UNWRITTEN }>,
     }
 }
 
@@ -112,6 +153,14 @@ fn valued(numbers: &mut [u32], value: &mut u64, call: impl FnOnce(State) -> Resu
             0
         }
         Err(refusal) => refusal,
+    }
+}
+
+/// Before a call that reads rows: it names none yet.
+#[inline(always)]
+fn unnamed<const FAULT: u8>(numbers: &[u32], bad: &mut BadRow) {
+    if FAULT != fault::LEFT_UNWRITTEN || numbers.len() == NUMBERS {
+        *bad = BadRow::default();
     }
 }
 
@@ -136,7 +185,9 @@ impl<const FAULT: u8> Keeper for Second<FAULT> {
         last: &mut [u32],
         waiting: &[u8],
         state: &mut [u32],
+        bad: &mut BadRow,
     ) -> u32 {
+        unnamed::<FAULT>(state, bad);
         if state.len() != NUMBERS {
             return OUT_OF_RULE;
         }
@@ -145,9 +196,9 @@ impl<const FAULT: u8> Keeper for Second<FAULT> {
                 state.copy_from_slice(&next.numbers());
                 0
             }
-            Err(refusal) => {
+            Err(refused) => {
                 state.fill(0);
-                refusal
+                bad.name(refused)
             }
         }
     }
@@ -173,8 +224,11 @@ impl<const FAULT: u8> Keeper for Second<FAULT> {
         first: &mut [u32],
         last: &mut [u32],
         waiting: &mut [u8],
+        bad: &mut BadRow,
     ) -> u32 {
-        stated(state, |state| second::begin::<FAULT>(state, Work { current, first, last, waiting }))
+        unnamed::<FAULT>(state, bad);
+        let work = Work { current, first, last, waiting };
+        stated(state, |state| second::begin::<FAULT>(state, work).map_err(|refused| bad.name(refused)))
     }
 
     #[inline(never)]
@@ -212,14 +266,19 @@ impl<const FAULT: u8> Keeper for Second<FAULT> {
         first: &mut [u32],
         last: &mut [u32],
         waiting: &mut [u8],
+        bad: &mut BadRow,
     ) -> u32 {
-        stated(state, |state| second::abort::<FAULT>(state, Work { current, first, last, waiting }))
+        unnamed::<FAULT>(state, bad);
+        let work = Work { current, first, last, waiting };
+        stated(state, |state| second::abort::<FAULT>(state, work).map_err(|refused| bad.name(refused)))
     }
 
     #[inline(never)]
-    fn force(&self, state: &mut [u32], medium: &mut [u8], waiting: &[u8], value: &mut u64) -> u32 {
+    fn force(&self, state: &mut [u32], medium: &mut [u8], waiting: &[u8], value: &mut u64, bad: &mut BadRow) -> u32 {
+        unnamed::<FAULT>(state, bad);
         valued(state, value, |state| {
-            let (state, number) = second::force(state, medium, waiting)?;
+            let forced = second::force::<FAULT>(state, medium, waiting);
+            let (state, number) = forced.map_err(|refused| bad.name(refused))?;
             Ok((state, number as u64))
         })
     }
@@ -242,8 +301,9 @@ impl<const FAULT: u8> Keeper for Second<FAULT> {
     }
 
     #[inline(never)]
-    fn cut(&self, state: &mut [u32], p: u32, medium: &mut [u8], first: &[u32]) -> u32 {
-        stated(state, |state| second::cut::<FAULT>(state, p, medium, first))
+    fn cut(&self, state: &mut [u32], p: u32, medium: &mut [u8], first: &[u32], bad: &mut BadRow) -> u32 {
+        unnamed::<FAULT>(state, bad);
+        stated(state, |state| second::cut::<FAULT>(state, p, medium, first).map_err(|refused| bad.name(refused)))
     }
 
     #[inline(never)]
@@ -270,17 +330,14 @@ impl<const FAULT: u8> Keeper for Second<FAULT> {
 
     #[inline(never)]
     fn read_row(&self, row: &[u8], cells: u32, number: u32, fields: &mut [u64; 4]) -> u32 {
-        let entry = layout::read_row(row, cells, number);
-        *fields = match entry {
-            Some(Entry::Update { cell, old, new }) => [cell as u64, old, new, 0],
-            _ => [0; 4],
+        let (kind, read) = match layout::read_row(row, cells, number) {
+            Ok(Entry::Update { cell, old, new }) => (1, [cell as u64, old, new, 0]),
+            Ok(Entry::Commit) => (2, [0; 4]),
+            Ok(Entry::Abort) => (3, [0; 4]),
+            Err(flaw) => (0, [0, 0, 0, flaw as u64]),
         };
-        match entry {
-            None => 0,
-            Some(Entry::Update { .. }) => 1,
-            Some(Entry::Commit) => 2,
-            Some(Entry::Abort) => 3,
-        }
+        *fields = read;
+        kind
     }
 
     #[inline(never)]

@@ -160,16 +160,54 @@ pub enum Entry {
     Abort,
 }
 
+/// The first thing wrong with a row, in the order in which a row is judged, and with the header's numbers.
+#[derive(Clone, Copy, Debug, PartialEq, Eq, PartialOrd, Ord)]
+#[repr(u32)]
+pub enum Flaw {
+    TooShort = 1,
+    /// An expected number 0 counts as this too.
+    OtherNumber,
+    UnknownKind,
+    FillerNotZero,
+    /// Of commits and aborts too.
+    CellOutOfRange,
+    CellLeft,
+    OldLeft,
+    NewLeft,
+    /// Of a row that reads as a commit or abort, where an update is needed.
+    NotAnUpdate,
+}
+
+/// The flaws in words, by number.
+pub const REASONS: [&str; 10] = [
+    "none",
+    "too short",
+    "other number",
+    "unknown kind",
+    "filler not zero",
+    "cell out of range",
+    "cell left in an end entry",
+    "old left in an end entry",
+    "new left in an end entry",
+    "not an update",
+];
+
 /// The number that a row holds, whatever the rest of it says.
 #[inline]
 pub fn number_in(row: &Row) -> u32 {
     word4(row, 0)
 }
 
-/// Reads the first 32 bytes as entry `number` of a medium with `cells` cells.
+/// Reads the first 32 bytes as entry `number` of a medium with `cells` cells. What is wrong with them is looked for only
+/// where they read as nothing.
 #[inline(always)]
-pub fn read_row(row: &[u8], cells: u32, number: u32) -> Option<Entry> {
-    let row: &Row = row.first_chunk()?;
+pub fn read_row(row: &[u8], cells: u32, number: u32) -> Result<Entry, Flaw> {
+    let row: &Row = row.first_chunk().ok_or(Flaw::TooShort)?;
+    entry_in(row, cells, number).ok_or_else(|| flaw_in(row, cells, number))
+}
+
+#[inline(always)]
+fn entry_in(row: &Row, cells: u32, number: u32) -> Option<Entry> {
     if number == 0 || number_in(row) != number {
         return None;
     }
@@ -185,6 +223,28 @@ pub fn read_row(row: &[u8], cells: u32, number: u32) -> Option<Entry> {
         2 => Some(Entry::Commit),
         3 => Some(Entry::Abort),
         _ => None,
+    }
+}
+
+/// The first thing wrong with a row that reads as nothing.
+#[cold]
+#[inline(never)]
+fn flaw_in(row: &Row, cells: u32, number: u32) -> Flaw {
+    let (kind, cell) = (row[4], word4(row, 8));
+    if number == 0 || number_in(row) != number {
+        Flaw::OtherNumber
+    } else if !(1..=3).contains(&kind) {
+        Flaw::UnknownKind
+    } else if row[5..8] != [0; 3] || row[12..16] != [0; 4] {
+        Flaw::FillerNotZero
+    } else if cell >= cells {
+        Flaw::CellOutOfRange
+    } else if cell != 0 {
+        Flaw::CellLeft
+    } else if word8(row, 16) != 0 {
+        Flaw::OldLeft
+    } else {
+        Flaw::NewLeft
     }
 }
 

@@ -1,6 +1,6 @@
 //! The proved library through its C boundary. A slice passes as pointer and length.
 
-use crate::keeper::Keeper;
+use crate::keeper::{BadRow, Keeper};
 
 extern "C" {
     fn keeper_format(medium: *mut u8, medium_len: usize, cells: u32, slots: u32) -> u32;
@@ -17,6 +17,8 @@ extern "C" {
         waiting_len: usize,
         state: *mut u32,
         state_len: usize,
+        reason: *mut u32,
+        entry: *mut u32,
     ) -> u32;
     fn keeper_recovery_step(
         state: *mut u32,
@@ -38,6 +40,8 @@ extern "C" {
         last_len: usize,
         waiting: *mut u8,
         waiting_len: usize,
+        reason: *mut u32,
+        entry: *mut u32,
     ) -> u32;
     fn keeper_read(
         state: *mut u32,
@@ -73,6 +77,8 @@ extern "C" {
         last_len: usize,
         waiting: *mut u8,
         waiting_len: usize,
+        reason: *mut u32,
+        entry: *mut u32,
     ) -> u32;
     fn keeper_force(
         state: *mut u32,
@@ -82,6 +88,8 @@ extern "C" {
         waiting: *const u8,
         waiting_len: usize,
         value: *mut u64,
+        reason: *mut u32,
+        entry: *mut u32,
     ) -> u32;
     fn keeper_write_back(
         state: *mut u32,
@@ -105,6 +113,8 @@ extern "C" {
         medium_len: usize,
         first: *const u32,
         first_len: usize,
+        reason: *mut u32,
+        entry: *mut u32,
     ) -> u32;
     fn keeper_look(
         state: *const u32,
@@ -147,6 +157,7 @@ impl Keeper for Library {
         last: &mut [u32],
         waiting: &[u8],
         state: &mut [u32],
+        bad: &mut BadRow,
     ) -> u32 {
         unsafe {
             keeper_recovery_start(
@@ -162,6 +173,8 @@ impl Keeper for Library {
                 waiting.len(),
                 state.as_mut_ptr(),
                 state.len(),
+                &mut bad.reason,
+                &mut bad.entry,
             )
         }
     }
@@ -189,6 +202,7 @@ impl Keeper for Library {
         first: &mut [u32],
         last: &mut [u32],
         waiting: &mut [u8],
+        bad: &mut BadRow,
     ) -> u32 {
         unsafe {
             keeper_begin(
@@ -202,6 +216,8 @@ impl Keeper for Library {
                 last.len(),
                 waiting.as_mut_ptr(),
                 waiting.len(),
+                &mut bad.reason,
+                &mut bad.entry,
             )
         }
     }
@@ -253,6 +269,7 @@ impl Keeper for Library {
         first: &mut [u32],
         last: &mut [u32],
         waiting: &mut [u8],
+        bad: &mut BadRow,
     ) -> u32 {
         unsafe {
             keeper_abort(
@@ -266,12 +283,14 @@ impl Keeper for Library {
                 last.len(),
                 waiting.as_mut_ptr(),
                 waiting.len(),
+                &mut bad.reason,
+                &mut bad.entry,
             )
         }
     }
 
     #[inline]
-    fn force(&self, state: &mut [u32], medium: &mut [u8], waiting: &[u8], value: &mut u64) -> u32 {
+    fn force(&self, state: &mut [u32], medium: &mut [u8], waiting: &[u8], value: &mut u64, bad: &mut BadRow) -> u32 {
         unsafe {
             keeper_force(
                 state.as_mut_ptr(),
@@ -281,6 +300,8 @@ impl Keeper for Library {
                 waiting.as_ptr(),
                 waiting.len(),
                 value,
+                &mut bad.reason,
+                &mut bad.entry,
             )
         }
     }
@@ -315,7 +336,7 @@ impl Keeper for Library {
     }
 
     #[inline]
-    fn cut(&self, state: &mut [u32], p: u32, medium: &mut [u8], first: &[u32]) -> u32 {
+    fn cut(&self, state: &mut [u32], p: u32, medium: &mut [u8], first: &[u32], bad: &mut BadRow) -> u32 {
         unsafe {
             keeper_cut(
                 state.as_mut_ptr(),
@@ -325,6 +346,8 @@ impl Keeper for Library {
                 medium.len(),
                 first.as_ptr(),
                 first.len(),
+                &mut bad.reason,
+                &mut bad.entry,
             )
         }
     }

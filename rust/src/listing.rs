@@ -1,6 +1,6 @@
 //! The listing's text: a medium is recovered in memory and its table printed as key=value lines.
 
-use crate::keeper::{Keeper, STEP_HEAD};
+use crate::keeper::{BadRow, Keeper, STEP_HEAD};
 use crate::layout::{table, word4, Fitment, Head, LARGEST, ROW};
 use crate::state::NUMBERS;
 use std::fmt::Write;
@@ -23,9 +23,8 @@ pub fn recover(keeper: &dyn Keeper, medium: &mut [u8]) -> Result<(), u32> {
     let (cells, slots) = (cells as usize, slots as usize);
     let (mut current, mut first, mut last) = (vec![0; cells], vec![0; cells], vec![0; cells]);
     let waiting = vec![0; ROW * slots];
-    let mut state = [0; NUMBERS];
-    refused(keeper.recovery_start(medium, &mut current, &mut first, &mut last, &waiting, &mut state))?;
-    let mut value = 0;
+    let (mut state, mut bad, mut value) = ([0; NUMBERS], BadRow::default(), 0);
+    refused(keeper.recovery_start(medium, &mut current, &mut first, &mut last, &waiting, &mut state, &mut bad))?;
     for _ in 0..=cells {
         refused(keeper.recovery_step(&mut state, medium, &current, &mut value))?;
         if value >= STEP_HEAD {

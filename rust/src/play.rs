@@ -1,10 +1,11 @@
 //! Two keepers at two desks, led through the same history. After every call both answers and every byte of both desks must be
-//! equal, a refusal must have changed nothing, a call must have made one store at most, and the ledger must agree.
+//! equal, a refusal must have changed nothing and name a bad row only where it may, a call must have made one store at most,
+//! and the ledger must agree.
 
 use crate::desk::{Answer, Buffer, Call, Desk};
 use crate::event::Event;
 use crate::hits::{Hits, Made};
-use crate::keeper::Keeper;
+use crate::keeper::{BadRow, Keeper};
 use crate::layout::{table_at, CELL, HEAD, ROW};
 use crate::ledger::Ledger;
 use crate::listing;
@@ -81,6 +82,9 @@ impl<'a> Play<'a> {
         if let Some(difference) = left.difference(right) {
             return Some(difference);
         }
+        if let Some(wrong) = misnamed(&made, a) {
+            return Some(wrong);
+        }
         hits.count(&made, a, left);
         self.judge_alone(&made, a).or_else(|| self.judge_by_ledger(&made, a))
     }
@@ -121,6 +125,19 @@ impl<'a> Play<'a> {
         let [a, b] = self.keepers.map(|keeper| listing::text(keeper, &mut medium.to_vec()));
         (a != b).then(|| format!("listing {a:?} against {b:?}"))
     }
+}
+
+/// A bad row is named beside 2 and 7 alone, by a reason and an entry that is one.
+fn misnamed(made: &Made, answer: Answer) -> Option<String> {
+    let reads_rows = [Call::RecoveryStart, Call::Begin, Call::Abort, Call::Force].contains(&made.call)
+        || matches!(made.call, Call::Cut { .. });
+    let BadRow { reason, entry } = answer.bad;
+    let named = reason != 0 && entry != 0;
+    let wrong = match answer.number {
+        2 | 7 => !named,
+        _ => answer.bad != BadRow::default(),
+    };
+    (reads_rows && wrong).then(|| format!("{answer}: a bad row is named beside 2 and 7 alone"))
 }
 
 /// Whether the media differ within one row, one cell or the head.

@@ -1,8 +1,8 @@
 //! Every call over bytes, with every refusal in its order.
 //!
 //! A call takes the state by value and hands back the next one, or refuses with a number and leaves every lent buffer
-//! untouched. Each call first judges the state and the length of all that it is lent. `FAULT` is a way to go wrong,
-//! `fault::NONE` for the sound program.
+//! untouched; a call that reads rows names the lowest bad one beside refusals 2 and 7. Each call first judges the state and
+//! the length of all that it is lent. `FAULT` is a way to go wrong, `fault::NONE` for the sound program.
 //!
 //! The helpers that hold a state or workspaces are always inlined, so that neither goes through memory.
 
@@ -31,6 +31,28 @@ pub const NO_CUT: Refusal = 9;
 /// Recovering; or, for recovery step, not recovering.
 pub const WRONG_PHASE: Refusal = 10;
 pub const NO_SUCH_ENTRY: Refusal = 11;
+
+/// The refusal of a call that reads rows.
+#[derive(Clone, Copy, Debug, PartialEq, Eq)]
+pub struct Refused {
+    pub number: Refusal,
+    /// Beside 2 and 7 alone: the first thing wrong with the lowest bad row, and the entry expected in it.
+    pub row: Option<(Flaw, u32)>,
+}
+
+impl From<Refusal> for Refused {
+    #[inline(always)]
+    fn from(number: Refusal) -> Refused {
+        Refused { number, row: None }
+    }
+}
+
+/// The refusal for a row that isn't entry `entry`.
+#[cold]
+#[inline(never)]
+fn bad_row<const FAULT: u8>(number: Refusal, flaw: Flaw, row: &Row, cells: u32, entry: u32) -> Refused {
+    Refused { number, row: Some(fault::named::<FAULT>(flaw, row, cells, entry)) }
+}
 
 /// The workspaces, lost at power loss.
 pub struct Work<'a> {
@@ -119,13 +141,19 @@ fn judge_room(state: &State) -> Result<(), Refusal> {
 
 /// Whether the waiting rows hold the open transaction's updates.
 #[inline(always)]
-fn judge_updates(state: &State, waiting: &[u8]) -> Result<(), Refusal> {
+fn judge_updates<const FAULT: u8>(state: &State, waiting: &[u8]) -> Result<(), Refused> {
     let rows = waiting.as_chunks().0;
-    for number in state.o + 1..state.l + 1 {
+    let (low, high) = (state.o + 1, state.l);
+    for k in low..high + 1 {
+        let number = if FAULT == fault::HIGHEST_OPEN { low + (high - k) } else { k };
         let row: &Row = &rows[slot_of(number, state.slots)];
-        let Some(Entry::Update { .. }) = read_row(row, state.cells, number) else {
-            return Err(WRONG_ROW);
+        let flaw = match read_row(row, state.cells, number) {
+            Ok(Entry::Update { .. }) => continue,
+            Ok(_) => Flaw::NotAnUpdate,
+            Err(flaw) if FAULT == fault::NOT_AN_UPDATE_EARLY && flaw >= Flaw::CellLeft => Flaw::NotAnUpdate,
+            Err(flaw) => flaw,
         };
+        return Err(bad_row::<FAULT>(WRONG_ROW, flaw, row, state.cells, number));
     }
     Ok(())
 }
@@ -136,7 +164,7 @@ fn undo<const FAULT: u8>(rows: &[Row], cells: u32, low: u32, high: u32, mut rest
     for k in 0..high - low {
         let number = if FAULT == fault::RISING_UNDO { low + 1 + k } else { high - k };
         let row = &rows[slot_of(number, rows.len() as u32)];
-        if let Some(Entry::Update { cell, old, .. }) = read_row(row, cells, number) {
+        if let Ok(Entry::Update { cell, old, .. }) = read_row(row, cells, number) {
             restore(cell, old);
         }
     }
@@ -181,14 +209,18 @@ pub fn turn(rows: &[Row], h: u32, e: u32) -> impl Iterator<Item = &Row> {
 
 /// The last entry of the stored journal.
 #[inline]
-fn last_stored(rows: &[Row], head: &Head) -> Result<u32, Refusal> {
+fn last_stored<const FAULT: u8>(rows: &[Row], head: &Head) -> Result<u32, Refused> {
     let mut e = head.h;
     for row in turn(rows, head.h, M) {
         if number_in(row) != e + 1 {
             break;
         }
-        if read_row(row, head.cells, e + 1).is_none() {
-            return Err(BROKEN_ROW);
+        if let Err(flaw) = read_row(row, head.cells, e + 1) {
+            let (flaw, row, entry) = match FAULT {
+                fault::HIGHEST_STORED => fault::highest_stored(rows, head),
+                _ => (flaw, row, e + 1),
+            };
+            return Err(bad_row::<FAULT>(BROKEN_ROW, flaw, row, head.cells, entry));
         }
         e += 1;
     }
@@ -202,13 +234,13 @@ fn replay<const FAULT: u8>(rows: &[Row], head: &Head, e: u32, current: &mut [u64
     for row in turn(rows, head.h, e) {
         number += 1;
         match read_row(row, head.cells, number) {
-            Some(Entry::Update { cell, new, .. }) => current[cell as usize] = new,
-            Some(Entry::Abort) => {
+            Ok(Entry::Update { cell, new, .. }) => current[cell as usize] = new,
+            Ok(Entry::Abort) => {
                 undo::<FAULT>(rows, head.cells, ended, number - 1, |cell, old| current[cell as usize] = old);
                 ended = number;
             }
-            Some(Entry::Commit) => ended = number,
-            None => {}
+            Ok(Entry::Commit) => ended = number,
+            Err(_) => {}
         }
     }
     undo::<FAULT>(rows, head.cells, ended, e, |cell, old| current[cell as usize] = old);
@@ -223,15 +255,15 @@ pub fn recovery_start<const FAULT: u8>(
     first: &mut [u32],
     last: &mut [u32],
     waiting: &[u8],
-) -> Result<State, Refusal> {
+) -> Result<State, Refused> {
     let head = Head::of(medium).ok_or(OUT_OF_RULE)?;
     let Head { cells, slots, h } = head;
     let lengths = [current.len(), first.len(), last.len()];
     if lengths != [cells as usize; 3] || waiting.len() != ROW * slots as usize {
-        return Err(OUT_OF_RULE);
+        return Err(OUT_OF_RULE.into());
     }
     let rows = rows(medium, slots);
-    let e = last_stored(rows, &head)?;
+    let e = last_stored::<FAULT>(rows, &head)?;
     for (value, cell) in current.iter_mut().zip(table(medium, slots)) {
         *value = u64::from_le_bytes(*cell);
     }
@@ -287,18 +319,18 @@ pub fn recovery_step<const FAULT: u8>(
 
 /// Opens a transaction; one that is open is aborted first.
 #[inline]
-pub fn begin<const FAULT: u8>(state: State, work: Work) -> Result<State, Refusal> {
+pub fn begin<const FAULT: u8>(state: State, work: Work) -> Result<State, Refused> {
     judge(&state, || work.fits(&state))?;
     if state.phase == Phase::Run {
-        judge_updates(&state, work.waiting)?;
+        judge_updates::<FAULT>(&state, work.waiting)?;
         judge_room(&state)?;
         return Ok(State { phase: Phase::Run, ..roll_back::<FAULT>(state, work) });
     }
     if state.l - state.h == state.slots {
-        return Err(NO_ROOM);
+        return Err(NO_ROOM.into());
     }
     if state.l == M {
-        return Err(NO_NUMBER);
+        return Err(NO_NUMBER.into());
     }
     Ok(State { phase: Phase::Run, ..state })
 }
@@ -333,18 +365,18 @@ pub fn commit(mut state: State, waiting: &mut [u8]) -> Result<(State, u32), Refu
 }
 
 #[inline]
-pub fn abort<const FAULT: u8>(state: State, work: Work) -> Result<State, Refusal> {
+pub fn abort<const FAULT: u8>(state: State, work: Work) -> Result<State, Refused> {
     judge(&state, || work.fits(&state))?;
     if state.phase == Phase::Idle {
         return Ok(state);
     }
-    judge_updates(&state, work.waiting)?;
+    judge_updates::<FAULT>(&state, work.waiting)?;
     Ok(roll_back::<FAULT>(state, work))
 }
 
 /// Stores the next entry and answers its number, or 0 where all are stored.
 #[inline]
-pub fn force(state: State, medium: &mut [u8], waiting: &[u8]) -> Result<(State, u32), Refusal> {
+pub fn force<const FAULT: u8>(state: State, medium: &mut [u8], waiting: &[u8]) -> Result<(State, u32), Refused> {
     judge(&state, || medium_fits(&state, medium) && waiting_fits(&state, waiting))?;
     if state.f == state.l {
         return Ok((state, 0));
@@ -352,8 +384,8 @@ pub fn force(state: State, medium: &mut [u8], waiting: &[u8]) -> Result<(State, 
     let number = state.f + 1;
     let slot = slot_of(number, state.slots);
     let row = &waiting.as_chunks().0[slot];
-    if read_row(row, state.cells, number).is_none() {
-        return Err(WRONG_ROW);
+    if let Err(flaw) = read_row(row, state.cells, number) {
+        return Err(bad_row::<FAULT>(WRONG_ROW, flaw, row, state.cells, number));
     }
     store_row(medium, slot, row);
     Ok((State { f: number, ..state }, number))
@@ -387,20 +419,24 @@ pub fn write_back<const FAULT: u8>(
 
 /// Drops the entries up to p.
 #[inline]
-pub fn cut<const FAULT: u8>(state: State, p: u32, medium: &mut [u8], first: &[u32]) -> Result<State, Refusal> {
+pub fn cut<const FAULT: u8>(state: State, p: u32, medium: &mut [u8], first: &[u32]) -> Result<State, Refused> {
     judge(&state, || medium_fits(&state, medium) && first.len() == state.cells as usize)?;
     if p < state.h || p > state.f || p > state.o {
-        return Err(NO_CUT);
+        return Err(NO_CUT.into());
     }
     if p != state.h {
         let row = &rows(medium, state.slots)[slot_of(p, state.slots)];
-        let entry = read_row(row, state.cells, p).ok_or(WRONG_ROW)?;
+        let entry = match read_row(row, state.cells, p) {
+            Ok(entry) => entry,
+            Err(flaw) => return Err(bad_row::<FAULT>(WRONG_ROW, flaw, row, state.cells, p)),
+        };
         if FAULT != fault::CUT_AT_UPDATE && matches!(entry, Entry::Update { .. }) {
-            return Err(NO_CUT);
+            let row = (FAULT == fault::BESIDE_NINE).then_some((Flaw::NotAnUpdate, p));
+            return Err(Refused { number: NO_CUT, row });
         }
     }
     if first.iter().any(|&n| 0 < n && n <= p) {
-        return Err(NO_CUT);
+        return Err(NO_CUT.into());
     }
     Head { cells: state.cells, slots: state.slots, h: p }.store(medium);
     Ok(State { h: p, ..state })

@@ -58,7 +58,7 @@ impl Iterator for Walker<'_> {
             return None;
         }
         let number = self.at + 1;
-        let entry = read_row(&rows(self.medium, slots)[slot_of(number, slots)], cells, number)?;
+        let entry = read_row(&rows(self.medium, slots)[slot_of(number, slots)], cells, number).ok()?;
         self.at = number;
         Some((number, entry))
     }

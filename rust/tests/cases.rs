@@ -3,7 +3,7 @@
 
 use second::directed::{A, B};
 use second::fault::Fault;
-use second::keeper::{self, Keeper, STEP_CLEAN, STEP_HEAD};
+use second::keeper::{self, BadRow, Keeper, STEP_CLEAN, STEP_HEAD};
 use second::layout::{medium_len, read_row, Entry, Head, HEAD, M, ROW};
 use second::listing;
 
@@ -66,7 +66,7 @@ impl Terminal {
     fn with_b(f: u32) -> Terminal {
         let mut t = Terminal::with_a();
         assert_eq!([t.begin(), t.write(0, B)], [Ok(0); 2]);
-        assert_eq!(read_row(&t.waiting[2 * ROW..], 2, 3), Some(Entry::Update { cell: 0, old: A, new: B }));
+        assert_eq!(read_row(&t.waiting[2 * ROW..], 2, 3), Ok(Entry::Update { cell: 0, old: A, new: B }));
         assert_eq!(t.write(0, B), Err(5));
         assert_eq!(t.commit(), Ok(4));
         assert_eq!(t.begin(), Err(5));
@@ -93,17 +93,17 @@ impl Terminal {
 
     fn start(&mut self) -> u32 {
         let Terminal { keeper, medium, current, first, last, waiting, state } = self;
-        keeper.recovery_start(medium, current, first, last, waiting, state)
+        keeper.recovery_start(medium, current, first, last, waiting, state, &mut BadRow::default())
     }
 
     fn begin(&mut self) -> Outcome {
         let Terminal { keeper, current, first, last, waiting, state, .. } = self;
-        outcome(keeper.begin(state, current, first, last, waiting), 0)
+        outcome(keeper.begin(state, current, first, last, waiting, &mut BadRow::default()), 0)
     }
 
     fn abort(&mut self) -> Outcome {
         let Terminal { keeper, current, first, last, waiting, state, .. } = self;
-        outcome(keeper.abort(state, current, first, last, waiting), 0)
+        outcome(keeper.abort(state, current, first, last, waiting, &mut BadRow::default()), 0)
     }
 
     fn read(&mut self, cell: u32) -> Outcome {
@@ -124,7 +124,8 @@ impl Terminal {
 
     fn force(&mut self) -> Outcome {
         let mut value = 0;
-        let number = self.keeper.force(&mut self.state, &mut self.medium, &self.waiting, &mut value);
+        let number =
+            self.keeper.force(&mut self.state, &mut self.medium, &self.waiting, &mut value, &mut BadRow::default());
         outcome(number, value)
     }
 
@@ -136,7 +137,7 @@ impl Terminal {
     }
 
     fn cut(&mut self, p: u32) -> Outcome {
-        outcome(self.keeper.cut(&mut self.state, p, &mut self.medium, &self.first), 0)
+        outcome(self.keeper.cut(&mut self.state, p, &mut self.medium, &self.first, &mut BadRow::default()), 0)
     }
 
     fn cell_on_medium(&self, cell: usize) -> u64 {
@@ -228,8 +229,8 @@ fn case_10_abort_in_falling_order() {
     assert_eq!((t.current[0], t.state), (0, [2, 4, 0, 0, 3, 3, 0]));
     assert_eq!((t.first[0], t.last[0]), (1, 3));
     let entries = [1, 2, 3].map(|n| read_row(&t.waiting[ROW * (n - 1)..], 2, n as u32));
-    let update = |old, new| Some(Entry::Update { cell: 0, old, new });
-    assert_eq!(entries, [update(0, A), update(A, B), Some(Entry::Abort)]);
+    let update = |old, new| Ok(Entry::Update { cell: 0, old, new });
+    assert_eq!(entries, [update(0, A), update(A, B), Ok(Entry::Abort)]);
 }
 
 #[test]

@@ -1,14 +1,11 @@
-//! The comparison itself: it finds every fault, and so does the ledger where both programs share the fault.
+//! The comparison itself: it finds every fault, and so does the ledger where both programs share one of the paper's.
 
 use second::draw::Draw;
-use second::fault::Fault;
+use second::fault::{Fault, OF_NAMING, OF_THE_PAPER};
 use second::hits::Hits;
 use second::keeper::{self, Keeper};
 use second::play::Play;
 use second::rng::Rng;
-
-const FAULTS: [Fault; 6] =
-    [Fault::ByLabel, Fault::CommittedOnly, Fault::RisingUndo, Fault::BackByFirst, Fault::HeadEarly, Fault::CutAtUpdate];
 
 /// The first of so many random histories that shows a difference, and the difference.
 fn first_difference(keepers: [&dyn Keeper; 2], histories: u64, hits: &mut Hits) -> Option<(u64, String)> {
@@ -35,18 +32,26 @@ fn equal_programs_show_no_difference_and_every_pair_is_reached() {
 
 #[test]
 fn every_fault_shows() {
-    for fault in FAULTS {
+    for fault in OF_THE_PAPER.into_iter().chain(OF_NAMING) {
         let keepers = [keeper::second(Fault::None), keeper::second(fault)];
         assert!(first_difference(keepers, 300, &mut Hits::default()).is_some(), "{fault:?}");
     }
 }
 
 #[test]
-fn the_ledger_finds_every_fault_that_both_share() {
-    for fault in FAULTS {
+fn the_ledger_finds_every_fault_of_the_paper_that_both_share() {
+    for fault in OF_THE_PAPER {
         let keepers = [keeper::second(fault), keeper::second(fault)];
         let found = first_difference(keepers, 2000, &mut Hits::default());
         println!("{fault:?}: {found:?}");
         assert!(found.is_some(), "{fault:?}");
+    }
+}
+
+#[test]
+fn a_row_named_beside_another_refusal_shows_where_both_name_it() {
+    for fault in [Fault::BesideNine, Fault::LeftUnwritten] {
+        let keepers = [keeper::second(fault), keeper::second(fault)];
+        assert!(first_difference(keepers, 300, &mut Hits::default()).is_some(), "{fault:?}");
     }
 }

@@ -10,19 +10,20 @@ use types.Run.{OneOf}
 use denote.Enum.Declared.{tagOf}
 use lib.Dec.{eqb}
 use Rattle.scope.specs.Bytes.{pick}
-use Rattle.scope.specs.Row.{Entry, update, commitEntry, abortEntry, entryOf, isUpdate}
+use Rattle.scope.specs.Row.{Entry, update, commitEntry, abortEntry, entryOf, isUpdate, Fault, faultAt}
 use Rattle.scope.proofs.Row.{read-fields}
-use Rattle.row.specs.Row.{entry, meaning}
+use Rattle.row.specs.Row.{entry, meaning, reasonOf}
 use Rattle.row.specs.declared.Row.{Row}
-use Rattle.row.specs.declared.Row.the-variants.{Holds, Nothing}
+use Rattle.row.specs.declared.Row.the-variants.{Holds, Wrong}
 use Rattle.row.specs.declared.Entry as code
+use Rattle.row.specs.declared.Reason as reasons
 use Rattle.row.specs.declared.Entry.the-variants.{Update, Commit, Abort}
 use Rattle.row.proofs.Entry.{the-type}
 use Rattle.journal.specs.Entries.{entryIn}
 
 module _ (r : Row) (o : Option Entry) (e : meaning r ≡ o) where
-  pub is-nothing : r ≡ Nothing → none ≡ o
-  is-nothing p = sym (ap meaning p) ∙ e
+  pub is-nothing : (x : reasons.Reason) → r ≡ Wrong x → none ≡ o
+  is-nothing x p = sym (ap meaning p) ∙ e
 
   module _ (w : code.Entry) (p : r ≡ Holds w) where
     pub is-some : some (entry w) ≡ o
@@ -67,3 +68,7 @@ unfolding entryIn
 entry-below rows base slots cells n c old new e =
     let f = read-fields cells n _ (update c old new) (sym e) in
     subst (λ x. x < cells) (same-cell _ _ _ _ c old new (f .entry)) (f .below)
+
+-- what is told of a row that does not read has nothing to do with later ones
+pub wrong-alone : (r : Row) (x : reasons.Reason) → r ≡ Wrong x → (n : ℕ) (a b : Fault) → faultAt n (reasonOf r) a ≡ faultAt n (reasonOf r) b
+wrong-alone r x p n a b = ap (λ v. faultAt n (reasonOf v) a) p ∙ sym (ap (λ v. faultAt n (reasonOf v) b) p)

@@ -8,21 +8,23 @@ use native.Mathlib.Omega.{arith}
 use lib.ListN.{length, getD, take, drop, length-drop, length-append}
 use lib.Seq.{take-take, take-add, drop-drop, length-take-le}
 use Rattle.scope.specs.Bytes.{bytesOf, numberAt, numberOf, put}
-use Rattle.scope.specs.Row.{Entry, readRow}
+use Rattle.scope.specs.Row.{Entry, readRow, Reason, wrongEntry}
 use Rattle.scope.specs.Keeper.{rowAt}
 use Rattle.scope.specs.Recovery.{rowsOf}
 use Rattle.scope.proofs.Bytes.{AllBytes, bytes-take, bytes-drop, bytesOf-numberOf, length-bytesOf}
 use Rattle.number.proofs.Numbers.{put-next}
-use Rattle.journal.specs.Entries.{entryIn}
+use Rattle.journal.specs.Entries.{entryIn, wrongIn}
 
-pub from-part : (rows : List ℕ) (cells n at : ℕ) (e : Option Entry) → e ≡ readRow cells n (take (at + 32 - at) (drop at rows))
-    → e ≡ readRow cells n (take 32 (drop at rows))
-from-part rows cells n at e q = let k : at + 32 - at ≡ 32 = omega arith in q ∙ rw k
+pub from-part : (rows : List ℕ) (cells n at : ℕ) (e : Option Entry) (x : Option Reason)
+    → (e ≡ readRow cells n (take (at + 32 - at) (drop at rows))) × (x ≡ wrongEntry cells n (take (at + 32 - at) (drop at rows)))
+    → (e ≡ readRow cells n (take 32 (drop at rows))) × (x ≡ wrongEntry cells n (take 32 (drop at rows)))
+from-part rows cells n at e x q = let k : at + 32 - at ≡ 32 = omega arith in (q .0 ∙ rw k, q .1 ∙ rw k)
 
-pub read-part : (rows : List ℕ) (base slots cells n row : ℕ) (e : Option Entry) → row ≡ rowAt slots n
-    → e ≡ readRow cells n (take 32 (drop (base + row) rows)) → e ≡ entryIn rows base slots cells n
-unfolding entryIn
-read-part rows base slots cells n row e p q = q ∙ rw p
+pub read-part : (rows : List ℕ) (base slots cells n row : ℕ) (e : Option Entry) (x : Option Reason) → row ≡ rowAt slots n
+    → (e ≡ readRow cells n (take 32 (drop (base + row) rows))) × (x ≡ wrongEntry cells n (take 32 (drop (base + row) rows)))
+    → (e ≡ entryIn rows base slots cells n) × (x ≡ wrongIn rows base slots cells n)
+unfolding entryIn wrongIn
+read-part rows base slots cells n row e x p q = (q .0 ∙ rw p, q .1 ∙ rw p)
 
 -- the row of an entry on a medium, by its place
 
@@ -34,6 +36,9 @@ module _ (m : List ℕ) (slots n at : ℕ) (p : at ≡ 32 + rowAt slots n) where
   pub read-from : (cells : ℕ) (e : Option Entry) → e ≡ readRow cells n (take 32 (drop at m)) → e ≡ entryIn m 32 slots cells n
   unfolding entryIn
   read-from cells e q = q ∙ rw p
+
+  pub wrong-from : (cells : ℕ) (x : Option Reason) → x ≡ wrongEntry cells n (take 32 (drop at m)) → x ≡ wrongEntry cells n (rowsOf slots m n)
+  wrong-from cells x q = q ∙ rw p
 
 -- rows one after the other
 

@@ -3,7 +3,7 @@ use Prim.Native.Nat.{ℕ, _+_, _*_, _≤_, _<_}
 use mathlib.Core.List.{List}
 use mathlib.Core.Option.{Option}
 use lib.ListN.{length, take, drop}
-use Rattle.scope.specs.Row.{Entry, readRow}
+use Rattle.scope.specs.Row.{Entry, readRow, Reason, wrongEntry}
 use Rattle.scope.specs.Keeper.{rowAt}
 
 -- C rows stand from `base` on, and n is an entry's number
@@ -16,3 +16,7 @@ pub record Rows (rows : List ℕ) (base slots n : ℕ) : Type 0 where
 -- what the row of entry n reads as
 unfoldable pub entryIn : List ℕ → ℕ → ℕ → ℕ → ℕ → Option Entry
 entryIn rows base slots cells n = readRow cells n (take 32 (drop (base + rowAt slots n) rows))
+
+-- what is wrong with it, where it must be entry n
+unfoldable pub wrongIn : List ℕ → ℕ → ℕ → ℕ → ℕ → Option Reason
+wrongIn rows base slots cells n = wrongEntry cells n (take 32 (drop (base + rowAt slots n) rows))

@@ -4,10 +4,10 @@ ghost use mathlib.Core.Path.{_≡_};
 ghost use Prim.Native.Nat.{ℕ, _+_, _*_, _<_, _≤_};
 ghost use lib.ListN.{length, take, drop};
 ghost use Rattle.scope.specs.Bytes.{put};
-ghost use Rattle.scope.specs.Row.{rowBytes, readRow};
+ghost use Rattle.scope.specs.Row.{rowBytes, readRow, wrongEntry};
 ghost use Rattle.scope.specs.Keeper.{rowAt};
-ghost use Rattle.row.specs.Row.{entry, meaning};
-ghost use Rattle.journal.specs.Entries.{Rows, entryIn};
+ghost use Rattle.row.specs.Row.{entry, meaning, reasonOf};
+ghost use Rattle.journal.specs.Entries.{Rows, entryIn, wrongIn};
 use medium::layout::index;
 use medium::layout::row_at;
 use row::Entry;
@@ -16,7 +16,8 @@ use row::Row;
 // The row that begins at a place, as entry n of a table of N cells.
 pub fn entry_from(rows: &[u8], at: usize, cells: u32, n: u32) -> Row
     requires { ⌜ at + 32 ≤ length (now rows) ⌝ }
-    ensures { λ r. ⌜ meaning r ≡ readRow cells n (take 32 (drop at (now (rows .entry)))) ⌝ }
+    ensures entry { λ r. ⌜ meaning r ≡ readRow cells n (take 32 (drop at (now (rows .entry)))) ⌝ }
+    ensures reason { λ r. ⌜ reasonOf r ≡ wrongEntry cells n (take 32 (drop at (now (rows .entry)))) ⌝ }
 {
     let end = at + 32;
     row::read_row(&rows[at..end], cells, n)
@@ -25,7 +26,8 @@ pub fn entry_from(rows: &[u8], at: usize, cells: u32, n: u32) -> Row
 // The row of entry n, of C rows that begin at a place, as that entry of a table of N cells.
 pub fn entry_at(rows: &[u8], base: usize, slots: u32, cells: u32, n: u32) -> Row
     requires { ⌜ Rows (now rows) base slots n ⌝ }
-    ensures { λ r. ⌜ meaning r ≡ entryIn (now (rows .entry)) base slots cells n ⌝ }
+    ensures entry { λ r. ⌜ meaning r ≡ entryIn (now (rows .entry)) base slots cells n ⌝ }
+    ensures reason { λ r. ⌜ reasonOf r ≡ wrongIn (now (rows .entry)) base slots cells n ⌝ }
 {
     entry_from(rows, base + row_at(slots, n), cells, n)
 }

@@ -14,15 +14,15 @@ use Rattle.scope.specs.Row.{Entry, isEntry, isUpdate}
 use Rattle.scope.specs.Keeper.{Keeper, isIdle, isRun, isRecovering, mediumLength, sound, mediumRow}
 use Rattle.scope.specs.Refusals.{Begin, Read, Write, Commit, Abort, Force, WriteBack, Cut, Look, lent, unfit, notUpdates, full, usedUp, anyFirst, tests, firstNo, refusal}
 use Rattle.scope.proofs.Refusals.{Numbered}
-use Rattle.scope.proofs.Row.{read-zero}
+use Rattle.scope.proofs.Told.{isFault}
 use Rattle.state.specs.State.{phaseOf, stateOf}
 use Rattle.state.specs.declared.Numbers.{Numbers}
 use Rattle.state.specs.declared.Phase as code
 use Rattle.journal.specs.Entries.{entryIn}
-use Rattle.workspace.specs.Values.{updatesFrom}
-use Rattle.workspace.proofs.Alike.{updates-keeper, waiting-entry}
+use Rattle.workspace.proofs.Alike.{waiting-entry}
+use Rattle.refusal.proofs.Faults.{found-bad}
 use Rattle.state.specs.Lent.{lentTo}
-use Rattle.refusal.specs.Rows.{notUpdatesIn, movedNo}
+use Rattle.refusal.specs.Rows.{openFaultIn, movedNo}
 
 -- a table cut in two
 
@@ -53,17 +53,6 @@ module _ (s f : Bool) where
 
   pub fit : s ≡ true → f ≡ true → (s && f) ≡ true
   fit e q = simp (e, q)
-
--- rows that abort judges
-
-module _ (n : Numbers) (p : code.Phase) (waiting : List ℕ) (b : Bool) (e : b ≡ isRun (phaseOf p)) where
-  pub not-run : b ≡ false → false ≡ notUpdatesIn n p waiting
-  unfolding notUpdatesIn
-  not-run z = simp (← e, z)
-
-  pub in-run : (y : Bool) → b ≡ true → y ≡ updatesFrom (entryIn waiting 0 (n .slots) (n .cells)) (n .l - n .o) (n .l) → not y ≡ notUpdatesIn n p waiting
-  unfolding notUpdatesIn
-  in-run y z q = simp (← e, z, q)
 
 module _ (n : Numbers) (p : code.Phase) (s t rec : Bool) (ss : s ≡ sound (stateOf n p)) (rr : rec ≡ isRecovering (phaseOf p)) where
   -- calls that ask all their tests at once
@@ -115,16 +104,12 @@ module _ (n : Numbers) (p : code.Phase) (s t rec : Bool) (ss : s ≡ sound (stat
     abort-early number e h =
         let q = entered-two number e in q ∙ early first-two ((notUpdates k, 7) ∷ []) (λ z. h (q ∙ z)) ∙ sym abort-tests
 
-    updates : (b : Bool) → b ≡ notUpdatesIn n p waiting → b ≡ notUpdates k
-    unfolding notUpdatesIn notUpdates lentTo stateOf k
-    updates b e = e ∙ ap (λ x. isRun (phaseOf p) && not x) (updates-keeper k (n .l - n .o) (n .l))
-
     pub abort-late : (number r : ℕ) (b : Bool) → number ≡ pick (not t) 1 (pick (isRecovering (phaseOf p)) 10 0) → number ≡ 0
-        → b ≡ notUpdatesIn n p waiting → r ≡ pick b 7 0
+        → b ≡ isFault (openFaultIn n p waiting) → r ≡ pick b 7 0
         → r ≡ refusal Abort (lentTo n p [] current first last waiting)
     unfolding k first-two
     abort-late number r b e z eb er =
-        er ∙ ap (λ x. pick x 7 0) (updates b eb) ∙ late first-two ((notUpdates k, 7) ∷ []) (omega arith, (omega arith, tt)) (sym (entered-two number e) ∙ z) ∙ sym abort-tests
+        er ∙ ap (λ x. pick x 7 0) (eb ∙ found-bad n p [] current first last waiting) ∙ late first-two ((notUpdates k, 7) ∷ []) (omega arith, (omega arith, tt)) (sym (entered-two number e) ∙ z) ∙ sym abort-tests
 
   -- force
 
@@ -290,7 +275,3 @@ module _ (h p : ℕ) (e : Option Entry) where
     pub moved-update : true ≡ isEntry e → true ≡ isUpdate e → 9 ≡ movedNo h p e
     unfolding movedNo
     moved-update i j = simp (ne-eqb p h q, ← i, ← j)
-
-pub entry-zero : (rows : List ℕ) (base slots cells p : ℕ) → p ≡ 0 → false ≡ isEntry (entryIn rows base slots cells p)
-unfolding entryIn
-entry-zero rows base slots cells p e = rw e (ap isEntry (sym (read-zero cells _)))

@@ -1,17 +1,21 @@
-// The number that each call refuses with, 0 where it is done: the papers' table, each call's tests in their order, one after the other,
+// What each call refuses with, 0 where it is done: the papers' table, each call's tests in their order, one after the other,
 // so that a call leaves at the first that holds. A function here changes nothing and is total: the calls ask it first.
+// Calls that judge rows tell beside 7 what is wrong with the lowest bad one.
 // Abort and cut leave at a state that is not sound before they look at what they are lent: that is quicker there, and slower in begin.
 ghost use mathlib.Core.Path.{_≡_};
 ghost use mathlib.Core.List.{[]};
-ghost use Prim.Native.Nat.{ℕ, _+_, _-_, _<_};
-ghost use Rattle.scope.specs.Refusals.{Begin, Read, Write, Commit, Abort, Force, WriteBack, Cut, Look, refusal};
-ghost use Rattle.journal.specs.Entries.{Rows, entryIn};
+ghost use Prim.Native.Nat.{ℕ, _≤_};
+ghost use Rattle.scope.specs.Refusals.{Begin, Read, Write, Commit, Abort, Force, WriteBack, Cut, Look, refusal, told};
+ghost use Rattle.row.specs.Row.{faultOf};
+ghost use Rattle.journal.specs.Entries.{Rows, entryIn, wrongIn};
 ghost use Rattle.state.specs.Lent.{lentTo};
-ghost use Rattle.refusal.specs.Rows.{notUpdatesIn, movedNo};
+ghost use Rattle.refusal.specs.Rows.{openFaultIn, movedNo, movedFault};
 use journal::entry_at;
 use medium::layout::index;
 use row::Entry;
+use row::Fault;
 use row::Row;
+use row::fault_in;
 use state::Numbers;
 use state::Phase;
 use state::both;
@@ -20,8 +24,31 @@ use state::is_idle;
 use state::is_recovering;
 use state::is_run;
 use state::refuse;
-use workspace::all_updates;
 use workspace::any_first;
+use workspace::lowest_fault;
+
+// A call's number, and what it tells of a row.
+pub struct Refusal {
+    pub number: u32,
+    pub fault: Fault,
+}
+
+// A number that no row is the reason of.
+fn plain(number: u32) -> Refusal
+    ensures { λ r. ⌜ r ≡ record { number = number; fault = Fault.None } ⌝ }
+{
+    Refusal {
+        number,
+        fault: Fault::None,
+    }
+}
+
+// 7: a row is bad.
+fn bad(fault: Fault) -> Refusal
+    ensures { λ r. ⌜ r ≡ record { number = 7; fault = fault } ⌝ }
+{
+    Refusal { number: 7, fault }
+}
 
 pub fn read(numbers: Numbers, phase: Phase, cell: u32, current: &[u64]) -> u32
     ensures { λ r. ⌜ r ≡ refusal (Read cell) (lentTo numbers phase [] (now (current .entry)) [] [] []) ⌝ }
@@ -100,16 +127,16 @@ pub fn commit(numbers: Numbers, phase: Phase, waiting: &[u8]) -> u32
     0
 }
 
-// 7: in run a waiting row of o+1 to l isn't that update.
-fn not_updates(numbers: Numbers, phase: Phase, waiting: &[u8]) -> bool
+// In run the lowest waiting row of o+1 to l that isn't that update.
+fn open_fault(numbers: Numbers, phase: Phase, waiting: &[u8]) -> Fault
     requires { ⌜ Rows (now waiting) 0 (numbers .slots) 1 ⌝ }
-    ensures { λ r. ⌜ r ≡ notUpdatesIn numbers phase (now (waiting .entry)) ⌝ }
+    ensures { λ r. ⌜ faultOf r ≡ openFaultIn numbers phase (now (waiting .entry)) ⌝ }
 {
     let running = is_run(phase);
     if running {} else {
-        return false;
+        return Fault::None;
     }
-    !all_updates(waiting, numbers.slots, numbers.cells, numbers.o, numbers.l)
+    lowest_fault(waiting, numbers.slots, numbers.cells, numbers.o, numbers.l)
 }
 
 pub fn abort(
@@ -119,24 +146,28 @@ pub fn abort(
     first: &[u32],
     last: &[u32],
     waiting: &[u8],
-) -> u32
+) -> Refusal
     ensures { λ r.
-        let after = r in
-        ⌜ after ≡ refusal Abort (lentTo numbers phase [] (now (current .entry)) (now (first .entry)) (now (last .entry)) (now (waiting .entry))) ⌝ }
+        let k = lentTo numbers phase [] (now (current .entry)) (now (first .entry)) (now (last .entry)) (now (waiting .entry)) in
+        ⌜ (r .number ≡ refusal Abort k) × (faultOf (r .fault) ≡ told Abort k) ⌝ }
 {
     let good = numbers.sound(phase);
     if good {} else {
-        return 1;
+        return plain(1);
     }
     let lent = numbers.fits_workspaces(current.len(), first.len(), last.len(), waiting.len());
     if lent {} else {
-        return 1;
+        return plain(1);
     }
     let recovering = is_recovering(phase);
     if recovering {
-        return 10;
+        return plain(10);
     }
-    refuse(not_updates(numbers, phase, waiting), 7, 0)
+    let found = open_fault(numbers, phase, waiting);
+    let Fault::None = found else {
+        return bad(found);
+    };
+    plain(0)
 }
 
 pub fn begin(
@@ -146,37 +177,39 @@ pub fn begin(
     first: &[u32],
     last: &[u32],
     waiting: &[u8],
-) -> u32
+) -> Refusal
     ensures { λ r.
-        let after = r in
-        ⌜ after ≡ refusal Begin (lentTo numbers phase [] (now (current .entry)) (now (first .entry)) (now (last .entry)) (now (waiting .entry))) ⌝ }
+        let k = lentTo numbers phase [] (now (current .entry)) (now (first .entry)) (now (last .entry)) (now (waiting .entry)) in
+        ⌜ (r .number ≡ refusal Begin k) × (faultOf (r .fault) ≡ told Begin k) ⌝ }
 {
     let lent = numbers.fits_workspaces(current.len(), first.len(), last.len(), waiting.len());
     let fit = both(numbers.sound(phase), lent);
     if fit {} else {
-        return 1;
+        return plain(1);
     }
     let recovering = is_recovering(phase);
     if recovering {
-        return 10;
+        return plain(10);
     }
-    let broken = not_updates(numbers, phase, waiting);
-    if broken {
-        return 7;
-    }
+    let found = open_fault(numbers, phase, waiting);
+    let Fault::None = found else {
+        return bad(found);
+    };
     let full = numbers.full(phase);
     if full {
-        return 5;
+        return plain(5);
     }
     let spent = numbers.used_up(phase);
     if spent {
-        return 6;
+        return plain(6);
     }
-    0
+    plain(0)
 }
 
-pub fn force(numbers: Numbers, phase: Phase, medium: &[u8], waiting: &[u8]) -> u32
-    ensures { λ r. ⌜ r ≡ refusal Force (lentTo numbers phase (now (medium .entry)) [] [] [] (now (waiting .entry))) ⌝ }
+pub fn force(numbers: Numbers, phase: Phase, medium: &[u8], waiting: &[u8]) -> Refusal
+    ensures { λ r.
+        let k = lentTo numbers phase (now (medium .entry)) [] [] [] (now (waiting .entry)) in
+        ⌜ (r .number ≡ refusal Force k) × (faultOf (r .fault) ≡ told Force k) ⌝ }
 {
     let lent = both(
         numbers.fits_medium(medium.len()),
@@ -184,20 +217,21 @@ pub fn force(numbers: Numbers, phase: Phase, medium: &[u8], waiting: &[u8]) -> u
     );
     let fit = both(numbers.sound(phase), lent);
     if fit {} else {
-        return 1;
+        return plain(1);
     }
     let recovering = is_recovering(phase);
     if recovering {
-        return 10;
+        return plain(10);
     }
     if numbers.f >= numbers.l {
-        return 0;
+        return plain(0);
     }
     let n = numbers.f + 1;
-    let Row::Holds(_) = entry_at(waiting, 0, numbers.slots, numbers.cells, n) else {
-        return 7;
+    let found = entry_at(waiting, 0, numbers.slots, numbers.cells, n);
+    let Row::Holds(_) = found else {
+        return bad(fault_in(found, n));
     };
-    0
+    plain(0)
 }
 
 pub fn write_back(
@@ -238,18 +272,18 @@ pub fn write_back(
 }
 
 // Cut to p, not h: 7, the medium's row of p isn't entry p; 9, it is an update.
-fn cut_row(numbers: Numbers, p: u32, medium: &[u8]) -> u32
-    requires { ⌜ Rows (now medium) 32 (numbers .slots) 1 ⌝ }
-    ensures { λ r. ⌜ r ≡ movedNo (numbers .h) p (entryIn (now (medium .entry)) 32 (numbers .slots) (numbers .cells) p) ⌝ }
+fn cut_row(numbers: Numbers, p: u32, medium: &[u8]) -> Refusal
+    requires { ⌜ (Rows (now medium) 32 (numbers .slots) 1) × (numbers .h ≤ p) ⌝ }
+    ensures { λ r.
+        let rows = now (medium .entry) in
+        ⌜ (r .number ≡ movedNo (numbers .h) p (entryIn rows 32 (numbers .slots) (numbers .cells) p)) × (faultOf (r .fault) ≡ movedFault (r .number) p (wrongIn rows 32 (numbers .slots) (numbers .cells) p)) ⌝ }
 {
     if p == numbers.h {
-        return 0;
+        return plain(0);
     }
-    if p == 0 {
-        return 7;
-    }
-    let Row::Holds(what) = entry_at(medium, 32, numbers.slots, numbers.cells, p) else {
-        return 7;
+    let found = entry_at(medium, 32, numbers.slots, numbers.cells, p);
+    let Row::Holds(what) = found else {
+        return bad(fault_in(found, p));
     };
     let Entry::Update {
         cell: _,
@@ -257,39 +291,45 @@ fn cut_row(numbers: Numbers, p: u32, medium: &[u8]) -> u32
         new: _,
     } = what
     else {
-        return 0;
+        return plain(0);
     };
-    9
+    plain(9)
 }
 
-pub fn cut(numbers: Numbers, phase: Phase, p: u32, medium: &[u8], first: &[u32]) -> u32
-    ensures { λ r. ⌜ r ≡ refusal (Cut p) (lentTo numbers phase (now (medium .entry)) [] (now (first .entry)) [] []) ⌝ }
+pub fn cut(numbers: Numbers, phase: Phase, p: u32, medium: &[u8], first: &[u32]) -> Refusal
+    ensures { λ r.
+        let k = lentTo numbers phase (now (medium .entry)) [] (now (first .entry)) [] [] in
+        ⌜ (r .number ≡ refusal (Cut p) k) × (faultOf (r .fault) ≡ told (Cut p) k) ⌝ }
 {
     let good = numbers.sound(phase);
     if good {} else {
-        return 1;
+        return plain(1);
     }
     let lent = both(
         numbers.fits_medium(medium.len()),
         numbers.fits_cells(first.len()),
     );
     if lent {} else {
-        return 1;
+        return plain(1);
     }
     let recovering = is_recovering(phase);
     if recovering {
-        return 10;
+        return plain(10);
     }
     // p below h, above f or above o
     let out = either(p < numbers.h, either(numbers.f < p, numbers.o < p));
     if out {
-        return 9;
+        return plain(9);
     }
     let row = cut_row(numbers, p, medium);
-    if row != 0 {
+    if row.number != 0 {
         return row;
     }
-    refuse(any_first(first, p), 9, 0)
+    let dirty = any_first(first, p);
+    if dirty {
+        return plain(9);
+    }
+    plain(0)
 }
 
 pub fn look(numbers: Numbers, phase: Phase, n: u32, medium: &[u8], waiting: &[u8]) -> u32

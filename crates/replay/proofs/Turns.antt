@@ -11,15 +11,16 @@ use denote.Enum.Declared.{tagOf}
 use lib.Dec.{leb}
 use lib.ListN.{length, set}
 use Rattle.scope.specs.Bytes.{pick, maxNo, numberAt}
-use Rattle.scope.specs.Row.{Entry, update, commitEntry, abortEntry, isUpdate}
-use Rattle.scope.specs.Recovery.{rowsOf, also, entriesFrom, atMost, journal}
-use Rattle.row.specs.Row.{meaning}
+use Rattle.scope.specs.Row.{Entry, update, commitEntry, abortEntry, isUpdate, Fault, faultless, faultAt, wrongEntry}
+use Rattle.scope.specs.Recovery.{rowsOf, also, entriesFrom, atMost, journal, faultFrom, journalFault}
+use Rattle.row.specs.Row.{meaning, reasonOf}
 use Rattle.row.specs.declared.Row.{Row}
-use Rattle.row.specs.declared.Row.the-variants.{Holds}
+use Rattle.row.specs.declared.Row.the-variants.{Holds, Wrong}
 use Rattle.row.specs.declared.Entry as code
+use Rattle.row.specs.declared.Reason as reasons
 use Rattle.row.proofs.Entry.{the-type}
 use Rattle.journal.specs.Entries.{entryIn}
-use Rattle.journal.proofs.Meanings.{is-end}
+use Rattle.journal.proofs.Meanings.{is-end, wrong-alone}
 use Rattle.replay.specs.Replay.{lastOf, undoEntry, undoFrom, replayEntry, openAfter, opened, onward, replayFrom}
 use Rattle.replay.specs.declared.entries.Replayed.{Replayed}
 use Rattle.replay.specs.declared.entries.Replayed.the-variants.{Open, Malformed}
@@ -155,3 +156,32 @@ module _ (m : List ℕ) (slots cells : ℕ) where
             → all ≡ lastOf (n + 1) (entriesFrom (rowsOf slots m) cells (left - 1) (n + 1))
         unfolding entriesFrom entryIn
         scan-again x e = scan-suc ∙ simp (eq-eqb _ _ q, ← e) (last-also n x (entriesFrom (rowsOf slots m) cells (left - 1) (n + 1)))
+
+  -- and the lowest row that does not read
+  pub fault-starts : (h left : ℕ) → left ≡ atMost slots h → journalFault cells slots h m ≡ faultFrom (rowsOf slots m) cells left h
+  unfolding journalFault
+  fault-starts h left p = ap (λ k. faultFrom (rowsOf slots m) cells k h) (sym p)
+
+  module _ (all : Fault) (n left : ℕ) (p : all ≡ faultFrom (rowsOf slots m) cells left n) where
+    pub fault-done : left ≤ 0 → faultless ≡ all
+    unfolding faultFrom
+    fault-done h = let z : left ≡ 0 = omega arith in sym (p ∙ rw z)
+
+    module _ (h : 0 < left) where
+      fault-suc : all ≡ faultFrom (rowsOf slots m) cells (suc (left - 1)) n
+      fault-suc = let z : left ≡ suc (left - 1) = omega arith in p ∙ ap (λ k. faultFrom (rowsOf slots m) cells k n) z
+
+      pub fault-stop : (numberAt 4 0 (rowsOf slots m (n + 1)) ≡ n + 1 → ⊥) → faultless ≡ all
+      unfolding faultFrom
+      fault-stop q = sym (fault-suc ∙ simp (ne-eqb _ _ q))
+
+      module _ (q : numberAt 4 0 (rowsOf slots m (n + 1)) ≡ n + 1) (r : Row) (e : reasonOf r ≡ wrongEntry cells (n + 1) (rowsOf slots m (n + 1))) where
+        fault-on : all ≡ faultAt (n + 1) (reasonOf r) (faultFrom (rowsOf slots m) cells (left - 1) (n + 1))
+        unfolding faultFrom
+        fault-on = fault-suc ∙ simp (eq-eqb _ _ q, ← e)
+
+        pub fault-bad : (x : reasons.Reason) → r ≡ Wrong x → (w : Fault) → w ≡ faultAt (n + 1) (reasonOf r) faultless → w ≡ all
+        fault-bad x t w f = f ∙ wrong-alone r x t (n + 1) _ _ ∙ sym fault-on
+
+        pub fault-again : (x : code.Entry) → r ≡ Holds x → all ≡ faultFrom (rowsOf slots m) cells (left - 1) (n + 1)
+        fault-again x f = fault-on ∙ ap (λ v. faultAt (n + 1) (reasonOf v) (faultFrom (rowsOf slots m) cells (left - 1) (n + 1))) f

@@ -5,7 +5,8 @@ use mathlib.Core.Bool.{Bool, true, false}
 use mathlib.Core.List.{List}
 use mathlib.Core.Option.{Option, none, some}
 use lib.ListN.{length, set}
-use Rattle.scope.specs.Row.{Entry, update, commitEntry, abortEntry}
+use Rattle.scope.specs.Row.{Entry, update, commitEntry, abortEntry, Fault, faultless}
+use Rattle.row.specs.Row.{faultOf}
 use Rattle.replay.specs.declared.scan.Counted.{Counted}
 use Rattle.replay.specs.declared.scan.Counted.the-variants as counts
 use Rattle.replay.specs.declared.entries.Replayed.{Replayed}
@@ -18,7 +19,12 @@ lastOf h none = none
 
 abbrev pub upto : Counted → Option ℕ
 upto (counts.Upto e) = some e
-upto counts.Malformed = none
+upto (counts.Malformed w) = none
+
+-- what is wrong with the row that does not read
+abbrev pub malformed : Counted → Fault
+malformed (counts.Upto e) = faultless
+malformed (counts.Malformed w) = faultOf w
 
 -- one entry undone: an update's old value is put back
 abbrev pub undoEntry : Option Entry → List ℕ → List ℕ

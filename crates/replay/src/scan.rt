@@ -1,18 +1,20 @@
 // Which entries count.
 ghost use mathlib.Core.Path.{_≡_};
 ghost use Prim.Native.Nat.{_+_, _<_};
-ghost use Rattle.scope.specs.Recovery.{atMost, journal};
+ghost use Rattle.scope.specs.Recovery.{atMost, journal, journalFault};
 ghost use Rattle.journal.specs.Entries.{Rows};
-ghost use Rattle.replay.specs.Replay.{lastOf, upto};
+ghost use Rattle.replay.specs.Replay.{lastOf, upto, malformed};
 use journal::entry_from;
 use journal::first_row;
 use journal::next_row;
+use row::Fault;
 use row::Row;
+use row::fault_in;
 
-// The last entry that counts, or that a row with the expected number does not read as an entry.
+// The last entry that counts, or the lowest row with the expected number that does not read as an entry.
 pub enum Counted {
     Upto(u32),
-    Malformed,
+    Malformed(Fault),
 }
 
 // How many rows are read at most: C, and not past M.
@@ -26,7 +28,8 @@ fn at_most(slots: u32, h: u32) -> u32
 // Entries h+1, h+2, .. of a medium are read while the row holds that number. Goes once over those rows.
 pub fn scan(medium: &[u8], slots: u32, cells: u32, h: u32) -> Counted
     requires { ⌜ Rows (now medium) 32 slots 1 ⌝ }
-    ensures { λ r. ⌜ upto r ≡ lastOf h (journal cells slots h (now (medium .entry))) ⌝ }
+    ensures entries { λ r. ⌜ upto r ≡ lastOf h (journal cells slots h (now (medium .entry))) ⌝ }
+    ensures fault { λ r. ⌜ malformed r ≡ journalFault cells slots h (now (medium .entry)) ⌝ }
 {
     let mut n = h;
     let mut left = at_most(slots, h);
@@ -36,8 +39,9 @@ pub fn scan(medium: &[u8], slots: u32, cells: u32, h: u32) -> Counted
         if number::get4(medium, at) != next {
             return Counted::Upto(n);
         }
-        let Row::Holds(_) = entry_from(medium, at, cells, next) else {
-            return Counted::Malformed;
+        let found = entry_from(medium, at, cells, next);
+        let Row::Holds(_) = found else {
+            return Counted::Malformed(fault_in(found, next));
         };
         n = next;
         left -= 1;

@@ -9,13 +9,13 @@
 //       16      8  old value; zero in a commit and an abort
 //       24      8  new value; zero in a commit and an abort
 //
-// Only the answer of reading a row, the entry or nothing, says what a row means.
+// Only the answer of reading a row, the entry or the first thing wrong, says what a row means.
 ghost use mathlib.Core.Path.{_≡_};
 ghost use Prim.Native.Nat.{_+_, _<_, _≤_};
 ghost use lib.ListN.{length};
 ghost use Rattle.scope.specs.Bytes.{put};
-ghost use Rattle.scope.specs.Row.{rowBytes, entryOf, readRow, isWritable, writeRow};
-ghost use Rattle.row.specs.Row.{entry, meaning, isBare};
+ghost use Rattle.scope.specs.Row.{rowBytes, entryOf, readRow, wrongEntry, faultless, faultAt, isWritable, writeRow};
+ghost use Rattle.row.specs.Row.{entry, reason, meaning, reasonOf, faultOf, bareEnd, leftOver, unreadAs, wrongOf};
 
 // An entry of the journal, without its number.
 pub enum Entry {
@@ -24,74 +24,117 @@ pub enum Entry {
     Abort,
 }
 
-// What a row reads as: the entry, or nothing.
+// What is wrong with a row, in the order in which it is judged. The last is asked of the open transaction's rows alone.
+pub enum Reason {
+    TooShort,
+    OtherNumber,
+    UnknownKind,
+    FillerNotZero,
+    CellOutOfRange,
+    CellLeft,
+    OldLeft,
+    NewLeft,
+    NotUpdate,
+}
+
+// What a row reads as: the entry, or the first thing wrong.
 pub enum Row {
     Holds(Entry),
-    Nothing,
+    Wrong(Reason),
 }
 
-// Whether cell, old and new are zero, as in an end.
-fn bare(cell: u32, old: u64, new: u64) -> bool
-    ensures { λ r. ⌜ r ≡ isBare cell old new ⌝ }
+// What is told of rows: nothing, or what is wrong with one and the number of the entry expected there.
+pub enum Fault {
+    None,
+    At { reason: Reason, entry: u32 },
+}
+
+// The fault of a row that must be entry `entry`.
+pub fn fault_in(row: Row, entry: u32) -> Fault
+    ensures { λ r. ⌜ faultOf r ≡ faultAt entry (reasonOf row) faultless ⌝ }
+{
+    match row {
+        Row::Holds(_) => Fault::None,
+        Row::Wrong(reason) => Fault::At { reason, entry },
+    }
+}
+
+// An end, in whose row cell, old and new are zero.
+fn ended(what: Entry, cell: u32, old: u64, new: u64) -> Row
+    ensures { λ r. ⌜ (meaning r ≡ bareEnd (entry what) cell old new) × (reasonOf r ≡ leftOver cell old new) ⌝ }
 {
     if cell != 0 {
-        return false;
+        return Row::Wrong(Reason::CellLeft);
     }
     if old != 0 {
-        return false;
+        return Row::Wrong(Reason::OldLeft);
     }
-    new == 0
+    if new != 0 {
+        return Row::Wrong(Reason::NewLeft);
+    }
+    Row::Holds(what)
 }
 
-// An entry by its kind.
-fn of_kind(kind: u32, cell: u32, old: u64, new: u64) -> Row
-    ensures { λ r. ⌜ meaning r ≡ entryOf kind cell old new ⌝ }
+// What is wrong with a row, where it is the kind, the filler or the cell's range.
+fn unread(row: &[u8]) -> Reason
+    requires { ⌜ 32 ≤ length (now row) ⌝ }
+    ensures { λ r. ⌜ reason r ≡ unreadAs (now (row .entry)) ⌝ }
+{
+    let kind = row[4];
+    if kind == 0 {
+        return Reason::UnknownKind;
+    }
+    if 3 < kind {
+        return Reason::UnknownKind;
+    }
+    if number::get4(row, 4) != kind as u32 {
+        return Reason::FillerNotZero;
+    }
+    if number::get4(row, 12) != 0 {
+        return Reason::FillerNotZero;
+    }
+    Reason::CellOutOfRange
+}
+
+// A row whose cell is in range, by the four bytes from its kind on.
+fn of_kind(row: &[u8], kind: u32, cell: u32, old: u64, new: u64) -> Row
+    requires { ⌜ 32 ≤ length (now row) ⌝ }
+    ensures { λ r. ⌜ (meaning r ≡ entryOf kind cell old new) × (reasonOf r ≡ wrongOf (now (row .entry)) kind cell old new) ⌝ }
 {
     match kind {
         1 => Row::Holds(Entry::Update { cell, old, new }),
-        2 => {
-            let end = bare(cell, old, new);
-            if end {
-                return Row::Holds(Entry::Commit);
-            }
-            Row::Nothing
-        }
-        3 => {
-            let end = bare(cell, old, new);
-            if end {
-                return Row::Holds(Entry::Abort);
-            }
-            Row::Nothing
-        }
-        0 | 4..=4294967295 => Row::Nothing,
+        2 => ended(Entry::Commit, cell, old, new),
+        3 => ended(Entry::Abort, cell, old, new),
+        0 | 4..=4294967295 => Row::Wrong(unread(row)),
     }
 }
 
-// Reads the first 32 bytes of a slice as entry `number` of a table of `cells` cells. A shorter slice reads as nothing.
-// Costs the row's bytes, once.
+// Reads the first 32 bytes of a slice as entry `number` of a table of `cells` cells. Costs the row's bytes, once; a row that reads is
+// judged by words, and only in one that does not are kind, filler and cell told apart.
 pub fn read_row(row: &[u8], cells: u32, number: u32) -> Row
-    ensures { λ r. ⌜ meaning r ≡ readRow cells number (now (row .entry)) ⌝ }
+    ensures entry { λ r. ⌜ meaning r ≡ readRow cells number (now (row .entry)) ⌝ }
+    ensures reason { λ r. ⌜ reasonOf r ≡ wrongEntry cells number (now (row .entry)) ⌝ }
 {
     if row.len() < 32 {
-        return Row::Nothing;
+        return Row::Wrong(Reason::TooShort);
     }
     if number == 0 {
-        return Row::Nothing;
+        return Row::Wrong(Reason::OtherNumber);
     }
     let found = number::get4(row, 0);
     if found != number {
-        return Row::Nothing;
+        return Row::Wrong(Reason::OtherNumber);
     }
     // the kind byte with the three after it: only 1, 2 and 3 are kinds
     let kind = number::get4(row, 4);
     // the cell with the four bytes after it: below N only where those are zero
     let cell = number::get8(row, 8);
     if cells as u64 <= cell {
-        return Row::Nothing;
+        return Row::Wrong(unread(row));
     }
     let old = number::get8(row, 16);
     let new = number::get8(row, 24);
-    of_kind(kind, cell as u32, old, new)
+    of_kind(row, kind, cell as u32, old, new)
 }
 
 // Writes entry `number` into the first 32 bytes of a slice, and answers whether it did: a shorter slice and number 0 are

@@ -3,11 +3,11 @@ use Prim.Native.Nat.{ℕ, zero, suc, _-_}
 use mathlib.Core.Path.{_≡_, refl, sym, ap, _∙_}
 use mathlib.Core.Option.{Option, none, some}
 use native.Mathlib.Nat.{zero-add}
-use Rattle.scope.specs.Row.{Entry, update, commitEntry, abortEntry, readRow}
+use Rattle.scope.specs.Row.{Entry, update, commitEntry, abortEntry, readRow, wrongUpdate}
 use Rattle.scope.specs.Keeper.{Keeper, waitingRow, assign}
-use Rattle.scope.specs.Recovery.{allUpdates, restore, rollback}
+use Rattle.scope.specs.Recovery.{restore, rollback}
 use Rattle.journal.specs.Entries.{entryIn}
-use Rattle.workspace.specs.Values.{Values, values, assigned, restored, rolledFrom, updatesFrom}
+use Rattle.workspace.specs.Values.{Values, values, assigned, restored, rolledFrom, wrongUpdateIn}
 
 -- a keeper with these values, and the rest of k
 abbrev pub withValues : Keeper → Values → Keeper
@@ -17,14 +17,9 @@ pub waiting-entry : (k : Keeper) (m : ℕ) → readRow (k .state .cells) m (wait
 unfolding waitingRow entryIn
 waiting-entry k m = rw zero-add
 
-module _ (k : Keeper) where
-  abbrev entries : ℕ → Option Entry
-  entries = entryIn (k .waiting) 0 (k .state .slots) (k .state .cells)
-
-  pub updates-keeper : (count m : ℕ) → updatesFrom entries count m ≡ allUpdates count m k
-  unfolding updatesFrom allUpdates
-  updates-keeper zero m = refl
-  updates-keeper (suc count) m = rw (updates-keeper count (m - 1), waiting-entry k m)
+pub waiting-wrong : (k : Keeper) (m : ℕ) → wrongUpdate (k .state .cells) m (waitingRow k m) ≡ wrongUpdateIn (k .waiting) (k .state .slots) (k .state .cells) m
+unfolding waitingRow wrongUpdateIn
+waiting-wrong k m = rw zero-add
 
 restore-values : (k : Keeper) (n : ℕ) (o : Option Entry) (d : Values) → withValues k (restored n o d) ≡ restore n o (withValues k d)
 unfolding restored restore assigned assign values

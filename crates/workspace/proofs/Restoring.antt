@@ -13,7 +13,7 @@ use lib.Seq.{drop-cons}
 use Rattle.scope.specs.Row.{Entry, update, commitEntry, abortEntry, isUpdate}
 use Rattle.scope.specs.Keeper.{firstMark}
 use Rattle.scope.specs.Refusals.{anyFirst}
-use Rattle.workspace.specs.Values.{Values, values, assigned, restored, rolledFrom, updatesFrom}
+use Rattle.workspace.specs.Values.{Values, values, assigned, restored, rolledFrom}
 
 -- marks and assignments
 
@@ -56,21 +56,6 @@ module _ (e : ℕ → Option Entry) (n o : ℕ) (D : Values) where
   pub roll-end : (m : ℕ) (d : Values) → D ≡ rolledFrom e n (m - o) m d → m ≤ o → d ≡ D
   unfolding rolledFrom
   roll-end m d p h = let z : m - o ≡ 0 = omega arith in sym (p ∙ rw z)
-
-module _ (e : ℕ → Option Entry) (o : ℕ) (B : Bool) (m : ℕ) (p : B ≡ updatesFrom e (m - o) m) where
-  updates-suc : o < m → B ≡ (isUpdate (e m) && updatesFrom e (m - 1 - o) (m - 1))
-  unfolding updatesFrom
-  updates-suc h = let z : m - o ≡ suc (m - 1 - o) = omega arith in p ∙ rw z
-
-  pub updates-again : (t : Bool) → o < m → t ≡ isUpdate (e m) → t ≡ true → B ≡ updatesFrom e (m - 1 - o) (m - 1)
-  updates-again t h q r = updates-suc h ∙ simp (← q, r)
-
-  pub updates-stop : (t : Bool) → o < m → t ≡ isUpdate (e m) → t ≡ false → false ≡ B
-  updates-stop t h q r = sym (updates-suc h ∙ simp (← q, r))
-
-  pub updates-end : m ≤ o → true ≡ B
-  unfolding updatesFrom
-  updates-end h = let z : m - o ≡ 0 = omega arith in sym (p ∙ rw z)
 
 module _ (p : ℕ) (first : List ℕ) (B found : Bool) (i : ℕ) (e : B ≡ (found || anyFirst p (drop i first))) where
   first-cons : i < length first → B ≡ (found || ((ltb 0 (getD first i 0) && leb (getD first i 0) p) || anyFirst p (drop (i + 1) first)))

@@ -1,13 +1,12 @@
 -- Current values, `first` and `last`, as the loops over waiting rows change them. The calls' contracts cite the papers' definitions;
 -- proofs/Alike.antt shows that these say the same.
-use Prim.Native.Nat.{ℕ, zero, suc, _-_}
+use Prim.Native.Nat.{ℕ, zero, suc, _+_, _-_}
 use mathlib.Core.Path.{_≡_}
-use mathlib.Core.Bool.{Bool, true, _&&_}
 use mathlib.Core.List.{List}
 use mathlib.Core.Option.{Option, none, some}
-use lib.ListN.{length, getD, set}
-use Rattle.scope.specs.Row.{Entry, update, commitEntry, abortEntry, isUpdate}
-use Rattle.scope.specs.Keeper.{firstMark}
+use lib.ListN.{length, getD, set, take, drop}
+use Rattle.scope.specs.Row.{Entry, update, commitEntry, abortEntry, Reason, wrongUpdate}
+use Rattle.scope.specs.Keeper.{firstMark, rowAt}
 
 pub record Values : Type 0 where
   pub current : List ℕ
@@ -39,7 +38,6 @@ unfoldable pub rolledFrom : (ℕ → Option Entry) → ℕ → ℕ → ℕ → V
 rolledFrom e n zero m d = d
 rolledFrom e n (suc count) m d = rolledFrom e n count (m - 1) (restored n (e m) d)
 
--- the `count` entries that end with m are updates
-unfoldable pub updatesFrom : (ℕ → Option Entry) → ℕ → ℕ → Bool
-updatesFrom e zero m = true
-updatesFrom e (suc count) m = isUpdate (e m) && updatesFrom e count (m - 1)
+-- what is wrong with the waiting row of entry n, which must be that update
+unfoldable pub wrongUpdateIn : List ℕ → ℕ → ℕ → ℕ → Option Reason
+wrongUpdateIn waiting slots cells n = wrongUpdate cells n (take 32 (drop (0 + rowAt slots n) waiting))

@@ -3,15 +3,19 @@
 ghost use mathlib.Core.Path.{_≡_};
 ghost use Prim.Native.Nat.{_-_, _<_};
 ghost use lib.ListN.{length};
-ghost use Rattle.scope.specs.Row.{isUpdate};
+ghost use Rattle.scope.specs.Row.{faultless, faultAt, lowestFault};
 ghost use Rattle.scope.specs.Keeper.{firstMark};
 ghost use Rattle.scope.specs.Refusals.{anyFirst};
+ghost use Rattle.row.specs.Row.{faultOf};
 ghost use Rattle.journal.specs.Entries.{Rows, entryIn};
-ghost use Rattle.workspace.specs.Values.{values, Fits, assigned, restored, rolledFrom, updatesFrom};
+ghost use Rattle.workspace.specs.Values.{values, Fits, assigned, restored, rolledFrom, wrongUpdateIn};
 use journal::entry_at;
 use medium::layout::index;
 use row::Entry;
+use row::Fault;
+use row::Reason;
 use row::Row;
+use row::fault_in;
 
 // A cell's `first` after entry n: set where it was 0.
 pub fn first_mark(old: u32, n: u32) -> u32
@@ -89,13 +93,14 @@ pub fn rollback(
     }
 }
 
-// Whether waiting row m is that update.
-fn is_update(waiting: &[u8], slots: u32, cells: u32, m: u32) -> bool
+// What is wrong with waiting row m, which must be that update.
+fn update_fault(waiting: &[u8], slots: u32, cells: u32, m: u32) -> Fault
     requires { ⌜ Rows (now waiting) 0 slots m ⌝ }
-    ensures { λ r. ⌜ r ≡ isUpdate (entryIn (now (waiting .entry)) 0 slots cells m) ⌝ }
+    ensures { λ r. ⌜ faultOf r ≡ faultAt m (wrongUpdateIn (now (waiting .entry)) slots cells m) faultless ⌝ }
 {
-    let Row::Holds(what) = entry_at(waiting, 0, slots, cells, m) else {
-        return false;
+    let found = entry_at(waiting, 0, slots, cells, m);
+    let Row::Holds(what) = found else {
+        return fault_in(found, m);
     };
     let Entry::Update {
         cell: _,
@@ -103,25 +108,28 @@ fn is_update(waiting: &[u8], slots: u32, cells: u32, m: u32) -> bool
         new: _,
     } = what
     else {
-        return false;
+        return Fault::At {
+            reason: Reason::NotUpdate,
+            entry: m,
+        };
     };
-    true
+    Fault::None
 }
 
-// Whether waiting rows l, l - 1, .., o + 1 are each that update. Goes once over those rows.
-pub fn all_updates(waiting: &[u8], slots: u32, cells: u32, o: u32, l: u32) -> bool
+// The lowest of waiting rows o + 1, .., l that isn't that update. Goes over those rows up to that one.
+pub fn lowest_fault(waiting: &[u8], slots: u32, cells: u32, o: u32, l: u32) -> Fault
     requires { ⌜ Rows (now waiting) 0 slots 1 ⌝ }
-    ensures { λ r. ⌜ r ≡ updatesFrom (entryIn (now (waiting .entry)) 0 slots cells) (l - o) l ⌝ }
+    ensures { λ r. ⌜ faultOf r ≡ lowestFault (wrongUpdateIn (now (waiting .entry)) slots cells) (l - o) o ⌝ }
 {
-    let mut m = l;
-    while o < m {
-        let good = is_update(waiting, slots, cells, m);
-        if good {} else {
-            return false;
-        }
-        m -= 1;
+    let mut m = o;
+    while m < l {
+        m += 1;
+        let found = update_fault(waiting, slots, cells, m);
+        let Fault::None = found else {
+            return found;
+        };
     }
-    true
+    Fault::None
 }
 
 // Whether some cell has 0 < `first` <= p. Goes once over all cells: without an exit on the way the loop is quicker.

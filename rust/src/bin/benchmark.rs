@@ -90,7 +90,10 @@ fn one_process() -> Option<Vec<Measured>> {
 
 /// Each call at N = C, and recovery beside a plain read.
 fn table(processes: &[Vec<Measured>]) {
-    println!("nanoseconds a call: library, plain Rust, ratio; the medians of {} processes' medians of alternating samples\n", processes.len());
+    println!(
+        "nanoseconds a call: library, plain Rust, ratio; the medians of {} processes' medians of alternating samples\n",
+        processes.len()
+    );
     print!("{:28}", "N = C");
     SIZES.iter().for_each(|size| print!("{size:>28}"));
     let (mut start, mut above, mut strays) = (f64::NAN, Vec::new(), Vec::new());

@@ -1,16 +1,16 @@
 //! compare [--seed S] [--calls N] [--questions Q] [--fault K]: leads the proved library and the second program through the same histories.
 //!
-//! After every call both answers, both states and every byte of every buffer must be equal. The directed histories come
-//! first, then random ones until N calls were compared; last, Q questions at the counter, on drawn tables and spans. A difference ends the run with a shortened history; so does, at the
-//! end, an allowed answer that was never reached. With --fault K (1 to 12) the second program goes wrong in that way, and the
-//! run must find it: it then ends with 0 where a difference was found. Built without the feature `library` the second program
-//! stands in for the library.
+//! After every call both answers, with the bad row that they name, both states and every byte of every buffer must be equal.
+//! The directed histories come first, then random ones until N calls were compared; last, Q questions at the counter, on drawn
+//! tables and spans. A difference ends the run with a shortened history; so does, at the end, an allowed answer or reason that
+//! was never reached. With --fault K (1 to 20) the second program goes wrong in that way, and the run must find it: it then ends
+//! with 0 where a difference was found. Built without the feature `library` the second program stands in for the library.
 
 use second::counting::{self, Question, Told, Wrong};
 use second::directed;
 use second::draw::Draw;
 use second::event::Event;
-use second::fault::Fault;
+use second::fault::{self, Fault};
 use second::hits::Hits;
 use second::keeper::{self, Keeper};
 use second::play::{self, Opening, Play};
@@ -49,7 +49,10 @@ struct Options {
 const USAGE: &str = "compare [--seed S] [--calls N] [--questions Q] [--fault K]
   K: 1 replay by label, 2 committed transactions only, 3 undo in rising order, 4 write-back by `first`,
      5 head before the last cell, 6 cut at an update; at the counter 7 release as text, 8 minor before major,
-     9 the last among equals, 10 a sum that wraps, 11 older for equal, 12 a part by its first cell";
+     9 the last among equals, 10 a sum that wraps, 11 older for equal, 12 a part by its first cell; of a bad row
+     13 cell out of range before filler, 14 cell out of range not asked of an end, 15 not an update before left-overs,
+     16 abort names the highest, 17 recovery start names the highest, 18 entry off by one, 19 a reason beside 9,
+     20 reason and entry unwritten";
 
 fn options() -> Result<Options, String> {
     let mut options = Options { seed: 1, calls: 1_000_000, questions: 1_000_000, fault: Fault::None, wrong: None };
@@ -60,25 +63,21 @@ fn options() -> Result<Options, String> {
             "--seed" => options.seed = number,
             "--calls" => options.calls = number,
             "--questions" => options.questions = number,
-            "--fault" if number > 6 => options.wrong = Some(*counting::WRONG.get(number as usize - 7).ok_or(USAGE)?),
-            "--fault" => options.fault = fault(number).ok_or(USAGE)?,
+            "--fault" => (options.fault, options.wrong) = fault(number as usize).ok_or(USAGE)?,
             _ => return Err(USAGE.to_string()),
         }
     }
     Ok(options)
 }
 
-fn fault(number: u64) -> Option<Fault> {
-    let faults = [
-        Fault::None,
-        Fault::ByLabel,
-        Fault::CommittedOnly,
-        Fault::RisingUndo,
-        Fault::BackByFirst,
-        Fault::HeadEarly,
-        Fault::CutAtUpdate,
-    ];
-    faults.get(number as usize).copied()
+/// The keeper's way to go wrong, or the counter's.
+fn fault(number: usize) -> Option<(Fault, Option<Wrong>)> {
+    Some(match number {
+        0 => (Fault::None, None),
+        1..7 => (fault::OF_THE_PAPER[number - 1], None),
+        7..13 => (Fault::None, Some(counting::WRONG[number - 7])),
+        _ => (*fault::OF_NAMING.get(number - 13)?, None),
+    })
 }
 
 /// A history in which the two differ.

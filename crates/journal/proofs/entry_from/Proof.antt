@@ -7,7 +7,7 @@ use Rattle.journal.proofs.entry_from.Tie as tie
 returns : tie.Need-returns
 returns c =
     let a = c .before .before .before .args in
-    from-part (a .rows .now) _ _ (a .at) _ (c .read-row .ensures)
+    from-part (a .rows .now) _ _ (a .at) _ _ (c .read-row .ensures)
 
 pub entry-from-spec : {M : Type 1} → statement M
 entry-from-spec =

@@ -9,15 +9,15 @@ use Rattle.workspace.proofs.restore.Statement.{statement}
 use Rattle.workspace.proofs.restore.Tie as tie
 
 returns : tie.Need-returns
-returns c = restore-other _ _ _ (ap isUpdate (is-nothing _ _ (c .before .before .entry-at .ensures) (c .enum-told .given .1)))
+returns c = restore-other _ _ _ (ap isUpdate (is-nothing _ _ (c .before .before .entry-at .ensures .0) _ (c .enum-told .given .1)))
 
 returns-2 : tie.Need-returns-2
-returns-2 c = restore-other _ _ _ (is-end _ _ (c .before .before .before .before .entry-at .ensures) _ (c .before .before .what .given .1) (c .match2 .keys2))
+returns-2 c = restore-other _ _ _ (is-end _ _ (c .before .before .before .before .entry-at .ensures .0) _ (c .before .before .what .given .1) (c .match2 .keys2))
 
 assign-requires : tie.Need-assign-requires
 assign-requires c κs =
     let d = c .before .before .before .before in
-    let u = is-update _ _ (d .before .before .before .before .before .entry-at .ensures) _ (d .before .before .before .what .given .1) _ _ _ (d .what2 .given .1) in
+    let u = is-update _ _ (d .before .before .before .before .before .entry-at .ensures .0) _ (d .before .before .before .what .given .1) _ _ _ (d .what2 .given .1) in
     omega (arith, entry-below _ _ _ _ _ _ _ _ u)
 
 returns-3 : tie.Need-returns-3
@@ -25,7 +25,7 @@ returns-3 c =
     let p6 = c .before .before .before .before .before .before in
     let p11 = p6 .before .before .before .before .before in
     let d = p11 in
-    restore-update _ _ _ _ _ _ _ (is-update _ _ (d .before .before .before .before .before .entry-at .ensures) _ (d .before .before .before .what .given .1) _ _ _ (d .what2 .given .1))
+    restore-update _ _ _ _ _ _ _ (is-update _ _ (d .before .before .before .before .before .entry-at .ensures .0) _ (d .before .before .before .what .given .1) _ _ _ (d .what2 .given .1))
     (p6 .assign .ensures)
 
 pub restore-spec : {M : Type 1} → statement M

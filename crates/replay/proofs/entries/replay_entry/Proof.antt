@@ -8,7 +8,7 @@ use Rattle.replay.proofs.entries.replay_entry.Statement.{statement}
 use Rattle.replay.proofs.entries.replay_entry.Tie as tie
 
 returns : tie.Need-returns
-returns c = replay-nothing _ _ _ _ _ _ (is-nothing _ _ (read-from _ _ _ _ (c .before .before .before .before .before .pre .1 .0) _ _ (c .before .before .entry-from .ensures)) (c .enum-told .given .1))
+returns c = replay-nothing _ _ _ _ _ _ (is-nothing _ _ (read-from _ _ _ _ (c .before .before .before .before .before .pre .1 .0) _ _ (c .before .before .entry-from .ensures .0)) _ (c .enum-told .given .1))
 
 slice-write-current : tie.Need-slice-write-current
 slice-write-current c =
@@ -16,7 +16,7 @@ slice-write-current c =
     let p5 = p2 .before .before .before in
     let p7 = p5 .before .before in
     let p10 = p7 .before .before .before in
-    omega (arith, entry-below _ _ _ _ _ _ _ _ (is-update _ _ (read-from _ _ _ _ (p10 .pre .1 .0) _ _ (p7 .entry-from .ensures)) _ (p5 .what .given .1) _ _ _ (p2 .what2 .given .1)))
+    omega (arith, entry-below _ _ _ _ _ _ _ _ (is-update _ _ (read-from _ _ _ _ (p10 .pre .1 .0) _ _ (p7 .entry-from .ensures .0)) _ (p5 .what .given .1) _ _ _ (p2 .what2 .given .1)))
 
 returns-2 : tie.Need-returns-2
 returns-2 c =
@@ -24,14 +24,14 @@ returns-2 c =
     let p5 = p2 .before .before .before in
     let p7 = p5 .before .before in
     let p10 = p7 .before .before .before in
-    replay-update _ _ _ _ _ _ _ _ _ _ (is-update _ _ (read-from _ _ _ _ (p10 .pre .1 .0) _ _ (p7 .entry-from .ensures)) _ (p5 .what .given .1) _ _ _ (p2 .what2 .given .1)) (omega arith)
+    replay-update _ _ _ _ _ _ _ _ _ _ (is-update _ _ (read-from _ _ _ _ (p10 .pre .1 .0) _ _ (p7 .entry-from .ensures .0)) _ (p5 .what .given .1) _ _ _ (p2 .what2 .given .1)) (omega arith)
 
 returns-3 : tie.Need-returns-3
 returns-3 c =
     let p3 = c .before .before .before in
     let p5 = p3 .before .before in
     let p8 = p5 .before .before .before in
-    replay-commit _ _ _ _ _ _ (is-commit _ _ (read-from _ _ _ _ (p8 .pre .1 .0) _ _ (p5 .entry-from .ensures)) _ (p3 .what .given .1) (c .enum-told2 .given .1))
+    replay-commit _ _ _ _ _ _ (is-commit _ _ (read-from _ _ _ _ (p8 .pre .1 .0) _ _ (p5 .entry-from .ensures .0)) _ (p3 .what .given .1) (c .enum-told2 .given .1))
 
 returns-4 : tie.Need-returns-4
 returns-4 c =
@@ -40,7 +40,7 @@ returns-4 c =
     let p7 = p4 .before .before .before in
     let p9 = p7 .before .before in
     let p12 = p9 .before .before .before in
-    replay-abort _ _ _ _ _ _ _ (p2 .undo .ensures) (is-abort _ _ (read-from _ _ _ _ (p12 .pre .1 .0) _ _ (p9 .entry-from .ensures)) _ (p7 .what .given .1) (p4 .enum-told3 .given .1))
+    replay-abort _ _ _ _ _ _ _ (p2 .undo .ensures) (is-abort _ _ (read-from _ _ _ _ (p12 .pre .1 .0) _ _ (p9 .entry-from .ensures .0)) _ (p7 .what .given .1) (p4 .enum-told3 .given .1))
 
 pub replay-entry-spec : {M : Type 1} → statement M
 replay-entry-spec =
