@@ -10,16 +10,20 @@ use lib.Dec.{eqb}
 use lib.ListN.{length, getD, replicate}
 use Rattle.scope.specs.Bytes.{pick, bytesOf, numberAt, put}
 use Rattle.scope.specs.Keeper.{Answer, recovering, done, refused, cell, head, clean, inRange, mediumLength, cellAt, headBytes, headOk, noState, withState, withMedium, madeTo, droppedTo, storeCell, storeHead, isRecovering, sound}
-use Rattle.scope.specs.Recovery.{journal, replay, tableOf, differing}
-use Rattle.scope.specs.Refusals.{RecoveryStart, RecoveryStep, isMedium, isCells, lent, lentStart, unfit, tests, refusal}
+use Rattle.scope.specs.Recovery.{journal, journalFault, replay, tableOf, differing}
+use Rattle.scope.specs.Refusals.{RecoveryStart, RecoveryStep, isMedium, isCells, lent, lentStart, unfit, tests, refusal, badRow, told}
 use Rattle.scope.specs.Calls.{started, stepAt, performed, act}
 use Rattle.scope.proofs.Refusals.{refusal-none, numbered-refused, numbered-done}
 use Rattle.scope.proofs.Sound.{fit-sound, fit-lent}
+use Rattle.scope.proofs.Told.{told-nothing, told-2}
+use Rattle.row.specs.Row.{faultOf}
+use Rattle.row.specs.declared.Fault.{Fault}
+use Rattle.row.specs.declared.Fault.the-variants.{None}
 use Rattle.medium.specs.Lent.{found}
 use Rattle.medium.specs.declared.table.Found.{Found}
 use Rattle.medium.specs.declared.table.Found.the-variants.{At, Nothing}
 use Rattle.journal.specs.Entries.{entryIn}
-use Rattle.replay.specs.Replay.{lastOf, upto, replayFrom, replayed}
+use Rattle.replay.specs.Replay.{lastOf, upto, malformed, replayFrom, replayed}
 use Rattle.replay.specs.declared.scan.Counted.{Counted}
 use Rattle.replay.specs.declared.scan.Counted.the-variants.{Upto, Malformed}
 use Rattle.replay.proofs.Replaying.{replay-rows, Last, last-some, last-none, last-fits}
@@ -85,10 +89,19 @@ module _ (m current first last waiting : List ℕ) where
   -- a start's three ends
 
   module _ (t : Bool) (e : t ≡ Fit) where
-    pub start-unfit : t ≡ false → (r : Started) → r ≡ record { number = 1; numbers = record { cells = 0; slots = 0; h = 0; f = 0; l = 0; o = 0 }; phase = Idle }
-        → left (numbered (r .number)) (r .numbers) (r .phase) m current first last waiting ≡ act RecoveryStart (stateless m current first last waiting)
+    number-1 : t ≡ false → 1 ≡ refusal RecoveryStart (stateless m current first last waiting)
+    unfolding stateless refusal tests
+    number-1 p = simp (← e, p)
+
+    pub start-unfit : t ≡ false → (r : Started)
+        → r ≡ record { number = 1; fault = None; numbers = record { cells = 0; slots = 0; h = 0; f = 0; l = 0; o = 0 }; phase = Idle }
+        → (left (numbered (r .number)) (r .numbers) (r .phase) m current first last waiting ≡ act RecoveryStart (stateless m current first last waiting))
+        × (faultOf (r .fault) ≡ told RecoveryStart (stateless m current first last waiting))
     unfolding left lentTo stateOf stateless act refusal tests withState noState
-    start-unfit p r q = ap (λ x. left (numbered (x .number)) (x .numbers) (x .phase) m current first last waiting) q ∙ simp (← e, p)
+    start-unfit p r q = (
+      ap (λ x. left (numbered (x .number)) (x .numbers) (x .phase) m current first last waiting) q ∙ simp (← e, p),
+      ap (λ x. faultOf (x .fault)) q ∙ told-nothing RecoveryStart (stateless m current first last waiting) 1 (number-1 p) (λ z. omega arith) (λ z. omega arith),
+    )
 
     module _ (p : t ≡ true) where
       pub start-head : Head m
@@ -98,24 +111,41 @@ module _ (m current first last waiting : List ℕ) where
       unfolding lentStart stateless
       start-lent = let q = sym e ∙ p in (search tests-true, search tests-true, search tests-true)
 
-      module _ (n c h : ℕ) (qn : n ≡ numberAt 4 0 m) (qc : c ≡ numberAt 4 4 m) (qh : h ≡ numberAt 4 8 m) (u : Counted) (qu : upto u ≡ lastOf h (journal n c h m)) where
+      module _ (n c h : ℕ) (qn : n ≡ numberAt 4 0 m) (qc : c ≡ numberAt 4 4 m) (qh : h ≡ numberAt 4 8 m) (u : Counted) (qs : (upto u ≡ lastOf h (journal n c h m)) × (malformed u ≡ journalFault n c h m)) where
         counted : lastOf (numberAt 4 8 m) (journal (numberAt 4 0 m) (numberAt 4 4 m) (numberAt 4 8 m) m) ≡ upto u
-        counted = sym (qu ∙ (λ i. lastOf (qh i) (journal (qn i) (qc i) (qh i) m)))
+        counted = sym (qs .0 ∙ (λ i. lastOf (qh i) (journal (qn i) (qc i) (qh i) m)))
 
-        pub start-malformed : u ≡ Malformed → (r : Started)
-            → r ≡ record { number = 2; numbers = record { cells = 0; slots = 0; h = 0; f = 0; l = 0; o = 0 }; phase = Idle }
-            → left (numbered (r .number)) (r .numbers) (r .phase) m current first last waiting ≡ act RecoveryStart (stateless m current first last waiting)
+        none-read : (w : Fault) → u ≡ Malformed w → journal (numberAt 4 0 m) (numberAt 4 4 m) (numberAt 4 8 m) m ≡ none
+        none-read w g = last-none m (numberAt 4 0 m) (numberAt 4 4 m) (numberAt 4 8 m) (counted ∙ ap upto g)
+
+        number-2 : (w : Fault) → u ≡ Malformed w → 2 ≡ refusal RecoveryStart (stateless m current first last waiting)
+        unfolding stateless refusal tests
+        number-2 w g = simp (← e, p, none-read w g)
+
+        named : malformed u ≡ badRow RecoveryStart (stateless m current first last waiting)
+        unfolding badRow stateless
+        named = qs .1 ∙ (λ i. journalFault (qn i) (qc i) (qh i) m)
+
+        pub start-malformed : (w : Fault) → u ≡ Malformed w → (f : Fault) → faultOf f ≡ malformed u → (r : Started)
+            → r ≡ record { number = 2; fault = f; numbers = record { cells = 0; slots = 0; h = 0; f = 0; l = 0; o = 0 }; phase = Idle }
+            → (left (numbered (r .number)) (r .numbers) (r .phase) m current first last waiting ≡ act RecoveryStart (stateless m current first last waiting))
+            × (faultOf (r .fault) ≡ told RecoveryStart (stateless m current first last waiting))
         unfolding left lentTo stateOf stateless act refusal tests withState noState
-        start-malformed g r q =
-            let j = last-none m (numberAt 4 0 m) (numberAt 4 4 m) (numberAt 4 8 m) (counted ∙ ap upto g) in
-            ap (λ x. left (numbered (x .number)) (x .numbers) (x .phase) m current first last waiting) q ∙ simp (← e, p, j)
+        start-malformed w g f y r q = (
+          ap (λ x. left (numbered (x .number)) (x .numbers) (x .phase) m current first last waiting) q ∙ simp (← e, p, none-read w g),
+          ap (λ x. faultOf (x .fault)) q ∙ y ∙ named ∙ told-2 RecoveryStart (stateless m current first last waiting) 2 (number-2 w g) refl,
+        )
 
         module _ (x : ℕ) (g : u ≡ Upto x) where
           pub start-upto : h < 4294967296 → h ≤ x
-          start-upto f = last-fits m n c h x (sym qu ∙ ap upto g) f .0
+          start-upto f = last-fits m n c h x (sym (qs .0) ∙ ap upto g) f .0
 
           read : Last m (numberAt 4 0 m) (numberAt 4 4 m) (numberAt 4 8 m) x
           read = last-some m (numberAt 4 0 m) (numberAt 4 4 m) (numberAt 4 8 m) x (counted ∙ ap upto g)
+
+          number-0 : 0 ≡ refusal RecoveryStart (stateless m current first last waiting)
+          unfolding refusal tests stateless
+          number-0 = simp (← e, p, read .read)
 
           accepted : record { answer = done 0; keeper = started (numberAt 4 0 m) (numberAt 4 4 m) (numberAt 4 8 m) (read .entries) (stateless m current first last waiting) }
               ≡ act RecoveryStart (stateless m current first last waiting)
@@ -138,8 +168,9 @@ module _ (m current first last waiting : List ℕ) where
                 let w : _≡_ {A = ℕ} 0 1 = cc in omega arith
 
             pub start-done : (first′ last′ : List ℕ) → first′ ≡ replicate (length first) 0 → last′ ≡ replicate (length last) 0 → all ≡ true → (r : Started)
-                → r ≡ record { number = 0; numbers = record { cells = n; slots = c; h = h; f = x; l = x; o = x }; phase = Recovering }
-                → left (numbered (r .number)) (r .numbers) (r .phase) m current′ first′ last′ waiting ≡ act RecoveryStart (stateless m current first last waiting)
+                → r ≡ record { number = 0; fault = None; numbers = record { cells = n; slots = c; h = h; f = x; l = x; o = x }; phase = Recovering }
+                → (left (numbered (r .number)) (r .numbers) (r .phase) m current′ first′ last′ waiting ≡ act RecoveryStart (stateless m current first last waiting))
+                × (faultOf (r .fault) ≡ told RecoveryStart (stateless m current first last waiting))
             unfolding left lentTo stateOf stateless
             start-done first′ last′ qf qg ok r q =
                 let e : _≡_ {A = Option (List ℕ)} (some current′) (some (replay (read .entries) [] (tableOf (numberAt 4 0 m) (numberAt 4 4 m) m))) =
@@ -147,20 +178,22 @@ module _ (m current first last waiting : List ℕ) where
                 let a : current′ ≡ replay (read .entries) [] (tableOf (numberAt 4 0 m) (numberAt 4 4 m) m) = cc in
                 let b = qf ∙ ap (λ i. replicate {A = ℕ} i 0) (start-lent .1) in
                 let d = qg ∙ ap (λ i. replicate {A = ℕ} i 0) (start-lent .2) in
-                let l : x ≡ numberAt 4 8 m + length (read .entries) = read .last in
-                ap (λ y. left (numbered (y .number)) (y .numbers) (y .phase) m current′ first′ last′ waiting) q
-                ∙ (λ i. record {
-                  answer = done 0;
-                  keeper = record {
-                    medium = m;
-                    current = a i;
-                    first = b i;
-                    last = d i;
-                    waiting = waiting;
-                    state = record { cells = qn i; slots = qc i; h = qh i; f = l i; l = l i; o = l i; phase = recovering };
-                  };
-                })
-                ∙ accepted
+                let l : x ≡ numberAt 4 8 m + length (read .entries) = read .last in (
+                  ap (λ y. left (numbered (y .number)) (y .numbers) (y .phase) m current′ first′ last′ waiting) q
+                      ∙ (λ i. record {
+                        answer = done 0;
+                        keeper = record {
+                          medium = m;
+                          current = a i;
+                          first = b i;
+                          last = d i;
+                          waiting = waiting;
+                          state = record { cells = qn i; slots = qc i; h = qh i; f = l i; l = l i; o = l i; phase = recovering };
+                        };
+                      })
+                      ∙ accepted,
+                  ap (λ y. faultOf (y .fault)) q ∙ told-nothing RecoveryStart (stateless m current first last waiting) 0 number-0 (λ z. omega arith) (λ z. omega arith),
+                )
 
 -- a step's refusal: all its tests, by congruence
 

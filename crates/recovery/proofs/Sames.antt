@@ -4,6 +4,9 @@ use Prim.Native.Nat.{ℕ, zero, suc}
 use mathlib.Core.Path.{_≡_, refl, sym, ap, _∙_}
 use mathlib.Core.List.{List}
 use Rattle.scope.specs.Keeper.{Outcome, Answer, done, refused, cell, head, clean, stored, part, refusalOf}
+use Rattle.scope.specs.Row.{Fault}
+use Rattle.row.specs.Row.{faultOf}
+use Rattle.row.proofs.Sames.{fault-same}
 use Rattle.state.specs.Lent.{left}
 use Rattle.state.proofs.Sames.{Same, left-same}
 use Rattle.recovery.specs.Answers.{numbered, stepped}
@@ -39,12 +42,14 @@ step-same a b e = sym (go a) ∙ ap step-back e ∙ go b
     go (Refused n) = refl
 
 module _ (m m′ c c′ f f′ l l′ w w′ : List ℕ) (x : Outcome) where
-  pub started-same : (r t : Started) → left (numbered (r .number)) (r .numbers) (r .phase) m c f l w ≡ x → left (numbered (t .number)) (t .numbers) (t .phase) m′ c′ f′ l′ w′ ≡ x
+  pub started-same : (r t : Started) (y : Fault) → (left (numbered (r .number)) (r .numbers) (r .phase) m c f l w ≡ x) × (faultOf (r .fault) ≡ y)
+      → (left (numbered (t .number)) (t .numbers) (t .phase) m′ c′ f′ l′ w′ ≡ x) × (faultOf (t .fault) ≡ y)
       → (r ≡ t) × Same (numbered (r .number)) (numbered (t .number)) (r .numbers) (t .numbers) (r .phase) (t .phase) m m′ c c′ f f′ l l′ w w′
-  started-same r t p q =
-      let d = left-same _ _ (r .numbers) (t .numbers) (r .phase) (t .phase) m m′ c c′ f f′ l l′ w w′ x p q in
+  started-same r t y p q =
+      let d = left-same _ _ (r .numbers) (t .numbers) (r .phase) (t .phase) m m′ c c′ f f′ l l′ w w′ x (p .0) (q .0) in
+      let g = fault-same (r .fault) (t .fault) y (p .1) (q .1) in
       let e = number-same (r .number) (t .number) (d .answer) in
-      (λ i. record { number = e i; numbers = d .numbers i; phase = d .phase i }, d)
+      (λ i. record { number = e i; fault = g i; numbers = d .numbers i; phase = d .phase i }, d)
 
   pub stepped-same : (r t : Stepped) → left (stepped (r .answer)) (r .numbers) (r .phase) m c f l w ≡ x → left (stepped (t .answer)) (t .numbers) (t .phase) m′ c′ f′ l′ w′ ≡ x
       → (r ≡ t) × Same (stepped (r .answer)) (stepped (t .answer)) (r .numbers) (t .numbers) (r .phase) (t .phase) m m′ c c′ f f′ l l′ w w′

@@ -8,8 +8,9 @@ ghost use Prim.Native.Nat.{ℕ, _+_, _*_, _<_, _≤_};
 ghost use lib.ListN.{length, replicate};
 ghost use Rattle.scope.specs.Bytes.{numberAt};
 ghost use Rattle.scope.specs.Keeper.{headOk};
-ghost use Rattle.scope.specs.Refusals.{RecoveryStart, RecoveryStep, lentStart, refusal};
+ghost use Rattle.scope.specs.Refusals.{RecoveryStart, RecoveryStep, lentStart, refusal, told};
 ghost use Rattle.scope.specs.Calls.{stepAt, act};
+ghost use Rattle.row.specs.Row.{faultOf};
 ghost use Rattle.state.specs.Lent.{lentTo, stateless, left};
 ghost use Rattle.recovery.specs.Answers.{numbered, stepped};
 use medium::head::head_ok;
@@ -21,15 +22,18 @@ use medium::table::lowest_differing;
 use medium::table::store_cell;
 use replay::entries::replay;
 use replay::scan::Counted;
+use replay::scan::fault_of;
 use replay::scan::scan;
+use row::Fault;
 use state::Numbers;
 use state::Phase;
 use state::both;
 use state::is_recovering;
 
-// What a start leaves: the number that it refuses with, 0 where it is done, and the state.
+// What a start leaves: the number that it refuses with, 0 where it is done, what it tells of a row beside 2, and the state.
 pub struct Started {
     pub number: u32,
+    pub fault: Fault,
     pub numbers: Numbers,
     pub phase: Phase,
 }
@@ -74,11 +78,14 @@ fn start_fits(medium: &[u8], current: &[u64], first: &[u32], last: &[u32], waiti
 }
 
 // The state with all numbers 0, which a refused start hands back.
-fn no_start(number: u32) -> Started
-    ensures { λ r. ⌜ r ≡ record { number = number; numbers = record { cells = 0; slots = 0; h = 0; f = 0; l = 0; o = 0 }; phase = Phase.Idle } ⌝ }
+fn no_start(number: u32, fault: Fault) -> Started
+    ensures { λ r.
+        let after = r in
+        ⌜ after ≡ record { number = number; fault = fault; numbers = record { cells = 0; slots = 0; h = 0; f = 0; l = 0; o = 0 }; phase = Phase.Idle } ⌝ }
 {
     Started {
         number,
+        fault,
         numbers: Numbers {
             cells: 0,
             slots: 0,
@@ -95,10 +102,11 @@ fn no_start(number: u32) -> Started
 fn upto(cells: u32, slots: u32, h: u32, e: u32) -> Started
     ensures { λ r.
         let after = r in
-        ⌜ after ≡ record { number = 0; numbers = record { cells = cells; slots = slots; h = h; f = e; l = e; o = e }; phase = Phase.Recovering } ⌝ }
+        ⌜ after ≡ record { number = 0; fault = Fault.None; numbers = record { cells = cells; slots = slots; h = h; f = e; l = e; o = e }; phase = Phase.Recovering } ⌝ }
 {
     Started {
         number: 0,
+        fault: Fault::None,
         numbers: Numbers {
             cells,
             slots,
@@ -122,8 +130,9 @@ fn clear(s: &mut [u32])
 }
 
 // Recovery start: reads the entries that count and replays them over the table, undoing what has no end. `first` and `last` become
-// zero, waiting rows and medium keep their bytes, and nothing is stored. Refuses 1 and 2, with the state of zeros. Goes over the entries
-// that count twice, judged and then replayed, once over the table, and once more over each undone row.
+// zero, waiting rows and medium keep their bytes, and nothing is stored. Refuses 1 and 2, with the state of zeros, and tells beside 2
+// what is wrong with the lowest row that does not read. Goes over the entries that count twice, judged and then replayed, once over the
+// table, and once more over each undone row.
 pub fn recovery_start(
     medium: &[u8],
     current: &mut [u64],
@@ -134,22 +143,23 @@ pub fn recovery_start(
     ensures { λ r.
         let before = stateless (now (medium .entry)) (now (current .entry)) (now (first .entry)) (now (last .entry)) (now (waiting .entry)) in
         let after = left (numbered (r .number)) (r .numbers) (r .phase) (now (medium .entry)) (now (current .exit)) (now (first .exit)) (now (last .exit)) (now (waiting .entry)) in
-        ⌜ after ≡ act RecoveryStart before ⌝ }
+        ⌜ (after ≡ act RecoveryStart before) × (faultOf (r .fault) ≡ told RecoveryStart before) ⌝ }
 {
     let fit = start_fits(medium, current, first, last, waiting);
     if fit {} else {
-        return no_start(1);
+        return no_start(1, Fault::None);
     }
     let cells = number::get4(medium, 0);
     let slots = number::get4(medium, 4);
     let h = number::get4(medium, 8);
-    let Counted::Upto(e) = scan(medium, slots, cells, h) else {
-        return no_start(2);
+    let counted = scan(medium, slots, cells, h);
+    let Counted::Upto(e) = counted else {
+        return no_start(2, fault_of(counted));
     };
     load(medium, slots, current);
     let read = replay(medium, slots, cells, h, e, current);
     if read {} else {
-        return no_start(2);
+        return no_start(2, Fault::None);
     }
     clear(first);
     clear(last);

@@ -2,6 +2,7 @@
 ghost use mathlib.Core.Path.{_≡_};
 ghost use Prim.Native.Nat.{_+_, _<_};
 ghost use Rattle.scope.specs.Recovery.{atMost, journal, journalFault};
+ghost use Rattle.row.specs.Row.{faultOf};
 ghost use Rattle.journal.specs.Entries.{Rows};
 ghost use Rattle.replay.specs.Replay.{lastOf, upto, malformed};
 use journal::entry_from;
@@ -15,6 +16,16 @@ use row::fault_in;
 pub enum Counted {
     Upto(u32),
     Malformed(Fault),
+}
+
+// What is wrong with that row; nothing where each reads.
+pub fn fault_of(counted: Counted) -> Fault
+    ensures { λ r. ⌜ faultOf r ≡ malformed counted ⌝ }
+{
+    match counted {
+        Counted::Upto(_) => Fault::None,
+        Counted::Malformed(fault) => fault,
+    }
 }
 
 // How many rows are read at most: C, and not past M.

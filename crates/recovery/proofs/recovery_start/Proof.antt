@@ -44,10 +44,10 @@ scan-requires c κs =
 
 returns-2 : tie.Need-returns-2
 returns-2 c =
-    let g = c .before .before .before in
+    let g = c .before .before .before .before in
     let d = g .before .before .before .before in
     let a = d .before .before .before .before .before .before .before .before .before .before .args in
-    start-malformed (a .medium .now) (a .current .now) (a .first .now) (a .last .now) (a .waiting .now) _ (d .before .start-fits .ensures) (d .if1 .taken) (g .before .before .before .get4 .result) (g .before .before .get42 .result) (g .before .get43 .result) (g .before .before .before .get4 .ensures) (g .before .before .get42 .ensures) (g .before .get43 .ensures) _ (g .scan .ensures) (c .before .enum-told .given .1) _ (c .no-start2 .ensures)
+    start-malformed (a .medium .now) (a .current .now) (a .first .now) (a .last .now) (a .waiting .now) _ (d .before .start-fits .ensures) (d .if1 .taken) (g .before .before .before .get4 .result) (g .before .before .get42 .result) (g .before .get43 .result) (g .before .before .before .get4 .ensures) (g .before .before .get42 .ensures) (g .before .get43 .ensures) _ (g .scan .ensures) _ (c .before .before .enum-told .given .1) _ (c .before .fault-of .ensures) _ (c .no-start2 .ensures)
 
 load-requires : tie.Need-load-requires
 load-requires c κs =
@@ -66,7 +66,7 @@ replay-requires c κs =
     let a = d .before .before .before .before .before .before .before .before .before .before .args in
     let f = start-head (a .medium .now) (a .current .now) (a .first .now) (a .last .now) (a .waiting .now) _ (d .before .start-fits .ensures) (d .if1 .taken) in
     let l = start-lent (a .medium .now) (a .current .now) (a .first .now) (a .last .now) (a .waiting .now) _ (d .before .start-fits .ensures) (d .if1 .taken) in
-    let u = start-upto (a .medium .now) (a .current .now) (a .first .now) (a .last .now) (a .waiting .now) _ (d .before .start-fits .ensures) (d .if1 .taken) (g .before .before .before .get4 .result) (g .before .before .get42 .result) (g .before .get43 .result) (g .before .before .before .get4 .ensures) (g .before .before .get42 .ensures) (g .before .get43 .ensures) _ (g .scan .ensures) _ (p6 .e .given .1) (omega arith) in
+    let u = start-upto (a .medium .now) (a .current .now) (a .first .now) (a .last .now) (a .waiting .now) _ (d .before .start-fits .ensures) (d .if1 .taken) (g .before .before .before .get4 .result) (g .before .before .get42 .result) (g .before .get43 .result) (g .before .before .before .get4 .ensures) (g .before .before .get42 .ensures) (g .before .get43 .ensures) _ (g .scan .ensures) _ (p6 .counted .given .1) (omega arith) in
     (omega arith, (omega arith, u))
 
 returns-3 : tie.Need-returns-3
@@ -75,7 +75,7 @@ returns-3 c =
     let g = r .before .before .before .before .before .before .before .before .before in
     let d = g .before .before .before .before in
     let a = d .before .before .before .before .before .before .before .before .before .before .args in
-    absurd (start-read (a .medium .now) (a .current .now) (a .first .now) (a .last .now) (a .waiting .now) _ (d .before .start-fits .ensures) (d .if1 .taken) (g .before .before .before .get4 .result) (g .before .before .get42 .result) (g .before .get43 .result) (g .before .before .before .get4 .ensures) (g .before .before .get42 .ensures) (g .before .get43 .ensures) _ (g .scan .ensures) _ (r .before .before .before .before .before .before .before .e .given .1) _ _ _ (r .before .before .before .before .load .ensures) (r .replay .ensures) (c .before .if2 .left))
+    absurd (start-read (a .medium .now) (a .current .now) (a .first .now) (a .last .now) (a .waiting .now) _ (d .before .start-fits .ensures) (d .if1 .taken) (g .before .before .before .get4 .result) (g .before .before .get42 .result) (g .before .get43 .result) (g .before .before .before .get4 .ensures) (g .before .before .get42 .ensures) (g .before .get43 .ensures) _ (g .scan .ensures) _ (r .before .before .before .before .before .before .before .counted .given .1) _ _ _ (r .before .before .before .before .load .ensures) (r .replay .ensures) (c .before .if2 .left))
 
 returns-4 : tie.Need-returns-4
 returns-4 c =
@@ -87,7 +87,7 @@ returns-4 c =
     let g = r .before .before .before .before .before .before .before .before .before in
     let d = g .before .before .before .before in
     let a = d .before .before .before .before .before .before .before .before .before .before .args in
-    start-done (a .medium .now) (a .current .now) (a .first .now) (a .last .now) (a .waiting .now) _ (d .before .start-fits .ensures) (d .if1 .taken) (g .before .before .before .get4 .result) (g .before .before .get42 .result) (g .before .get43 .result) (g .before .before .before .get4 .ensures) (g .before .before .get42 .ensures) (g .before .get43 .ensures) _ (g .scan .ensures) _ (r .before .before .before .before .before .before .before .e .given .1) _ _ _ (r .before .before .before .before .load .ensures) (r .replay .ensures) _ _ (p7 .clear .ensures) (p3 .clear2 .ensures) (p9 .if2 .taken) _ (c .upto .ensures)
+    start-done (a .medium .now) (a .current .now) (a .first .now) (a .last .now) (a .waiting .now) _ (d .before .start-fits .ensures) (d .if1 .taken) (g .before .before .before .get4 .result) (g .before .before .get42 .result) (g .before .get43 .result) (g .before .before .before .get4 .ensures) (g .before .before .get42 .ensures) (g .before .get43 .ensures) _ (g .scan .ensures) _ (r .before .before .before .before .before .before .before .counted .given .1) _ _ _ (r .before .before .before .before .load .ensures) (r .replay .ensures) _ _ (p7 .clear .ensures) (p3 .clear2 .ensures) (p9 .if2 .taken) _ (c .upto .ensures)
 
 pub recovery-start-spec : {M : Type 1} → statement M
 recovery-start-spec =
@@ -105,6 +105,7 @@ recovery-start-spec =
     scan-requires
     (λ c. search needs)
     (λ c. search needs)
+    (λ c κs. search needs)
     (λ c κs. search needs)
     (λ c. search needs)
     (λ c. search needs)
