@@ -4,6 +4,9 @@ use Prim.Native.Nat.{ℕ}
 use mathlib.Core.Path.{_≡_, refl, sym, ap, _∙_}
 use mathlib.Core.List.{List}
 use Rattle.scope.specs.Keeper.{Outcome, Answer, done, refused, cell, head, clean, stored, part}
+use Rattle.scope.specs.Row.{Fault}
+use Rattle.row.specs.Row.{faultOf}
+use Rattle.row.proofs.Sames.{fault-same}
 use Rattle.state.specs.Lent.{left}
 use Rattle.state.proofs.Sames.{Same, left-same}
 use Rattle.recovery.specs.Answers.{stepped}
@@ -63,11 +66,13 @@ module _ (m m′ c c′ f f′ l l′ w w′ : List ℕ) (x : Outcome) where
   alike a b s t p q = left-same a b (s .numbers) (t .numbers) (s .phase) (t .phase) m m′ c c′ f f′ l l′ w w′ x p q
 
   -- recovery start, begin, read, write, commit, abort, force, cut
-  pub outcome-same : (r t : outcome.Outcome) → leaves (answered (r .answer)) (r .state) m c f l w ≡ x → leaves (answered (t .answer)) (t .state) m′ c′ f′ l′ w′ ≡ x
+  pub outcome-same : (r t : outcome.Outcome) (y : Fault) → (leaves (answered (r .answer)) (r .state) m c f l w ≡ x) × (faultOf (r .fault) ≡ y)
+      → (leaves (answered (t .answer)) (t .state) m′ c′ f′ l′ w′ ≡ x) × (faultOf (t .fault) ≡ y)
       → (r ≡ t) × Alike (answered (r .answer)) (answered (t .answer)) (r .state) (t .state)
-  outcome-same r t p q =
-      let d = alike _ _ (r .state) (t .state) p q in let e = answer-same (r .answer) (t .answer) (d .answer) in
-      (λ i. record { answer = e i; state = record { numbers = d .numbers i; phase = d .phase i } }, d)
+  outcome-same r t y p q =
+      let d = alike _ _ (r .state) (t .state) (p .0) (q .0) in let e = answer-same (r .answer) (t .answer) (d .answer) in
+      let g = fault-same (r .fault) (t .fault) y (p .1) (q .1) in
+      (λ i. record { answer = e i; fault = g i; state = record { numbers = d .numbers i; phase = d .phase i } }, d)
 
   -- recovery step
   pub stepped-same : (r t : steps.Stepped) → leaves (stepped (r .answer)) (r .state) m c f l w ≡ x → leaves (stepped (t .answer)) (t .state) m′ c′ f′ l′ w′ ≡ x

@@ -13,6 +13,7 @@ use Rattle.scope.specs.Refusals.{Force, WriteBack, Cut, refusal}
 use Rattle.scope.specs.Calls.{cleaned, act, performed}
 use Rattle.state.specs.State.{stateOf}
 use Rattle.state.specs.Lent.{lentTo}
+use Rattle.row.specs.declared.Fault.the-variants.{None}
 use Rattle.keeper.specs.Answers.{answered, handed, leaves}
 use Rattle.keeper.specs.declared.State.{State}
 use Rattle.keeper.specs.declared.Outcome as result
@@ -24,7 +25,7 @@ module _ (s : State) (number : ℕ) where
     -- force
 
     module _ (medium waiting : List ℕ) (e : number ≡ refusal Force (lentTo (s .numbers) (s .phase) medium [] [] [] waiting)) where
-      pub force-none : number ≡ 0 → s .numbers .l ≤ s .numbers .f → r ≡ record { answer = Done 0; state = record { numbers = s .numbers; phase = s .phase } }
+      pub force-none : number ≡ 0 → s .numbers .l ≤ s .numbers .f → r ≡ record { answer = Done 0; fault = None; state = record { numbers = s .numbers; phase = s .phase } }
           → leaves (answered (r .answer)) (r .state) medium [] [] [] waiting ≡ act Force (handed s medium [] [] [] waiting)
       unfolding performed leaves handed lentTo stateOf
       force-none z h q =
@@ -34,7 +35,7 @@ module _ (s : State) (number : ℕ) where
 
       pub force-stored : (n : ℕ) (m : List ℕ) → number ≡ 0 → s .numbers .f < s .numbers .l → n ≡ s .numbers .f + 1
           → m ≡ put medium (32 + rowAt (s .numbers .slots) n) (take 32 (drop (rowAt (s .numbers .slots) n) waiting))
-          → r ≡ record { answer = Done n; state = record { numbers = record { cells = s .numbers .cells; slots = s .numbers .slots; h = s .numbers .h; f = n; l = s .numbers .l; o = s .numbers .o }; phase = s .phase } }
+          → r ≡ record { answer = Done n; fault = None; state = record { numbers = record { cells = s .numbers .cells; slots = s .numbers .slots; h = s .numbers .h; f = n; l = s .numbers .l; o = s .numbers .o }; phase = s .phase } }
           → leaves (answered (r .answer)) (r .state) m [] [] [] waiting ≡ act Force (handed s medium [] [] [] waiting)
       unfolding performed leaves handed lentTo stateOf withState withMedium storedNext waitingRow
       force-stored n m z h p g q =
@@ -48,7 +49,7 @@ module _ (s : State) (number : ℕ) where
 
     module _ (p : ℕ) (medium first : List ℕ) (e : number ≡ refusal (Cut p) (lentTo (s .numbers) (s .phase) medium [] first [] [])) where
       pub cut-done : (m : List ℕ) → number ≡ 0 → m ≡ put medium 0 (headBytes (s .numbers .cells) (s .numbers .slots) p)
-          → r ≡ record { answer = Done 0; state = record { numbers = record { cells = s .numbers .cells; slots = s .numbers .slots; h = p; f = s .numbers .f; l = s .numbers .l; o = s .numbers .o }; phase = s .phase } }
+          → r ≡ record { answer = Done 0; fault = None; state = record { numbers = record { cells = s .numbers .cells; slots = s .numbers .slots; h = p; f = s .numbers .f; l = s .numbers .l; o = s .numbers .o }; phase = s .phase } }
           → leaves (answered (r .answer)) (r .state) m [] first [] [] ≡ act (Cut p) (handed s medium [] first [] [])
       unfolding performed leaves handed lentTo stateOf withState withMedium droppedTo storeHead
       cut-done m z g q = rw (q, g) (numbered-done (Cut p) (lentTo (s .numbers) (s .phase) medium [] first [] []) number e z)

@@ -19,6 +19,7 @@ use Rattle.journal.specs.Entries.{entryIn}
 use Rattle.workspace.specs.Values.{Values, values, assigned, rolledFrom}
 use Rattle.workspace.proofs.Alike.{withValues, rollback-values}
 use Rattle.state.specs.Lent.{lentTo}
+use Rattle.row.specs.declared.Fault.the-variants.{None}
 use Rattle.keeper.specs.Answers.{answered, handed, leaves}
 use Rattle.keeper.specs.declared.State.{State}
 use Rattle.keeper.specs.declared.Outcome as result
@@ -29,7 +30,7 @@ module _ (s : State) (r : result.Outcome) (number : ℕ) where
   -- read
 
   module _ (cell : ℕ) (current : List ℕ) (e : number ≡ refusal (Read cell) (lentTo (s .numbers) (s .phase) [] current [] [] [])) where
-    pub read-done : (at v : ℕ) → at ≡ cell → v ≡ getD current at 0 → r ≡ record { answer = Done v; state = record { numbers = s .numbers; phase = s .phase } } → number ≡ 0
+    pub read-done : (at v : ℕ) → at ≡ cell → v ≡ getD current at 0 → r ≡ record { answer = Done v; fault = None; state = record { numbers = s .numbers; phase = s .phase } } → number ≡ 0
         → leaves (answered (r .answer)) (r .state) [] current [] [] [] ≡ act (Read cell) (handed s [] current [] [] [])
     unfolding performed leaves handed lentTo
     read-done at v p q f z = rw (f, q, p) (numbered-done (Read cell) (lentTo (s .numbers) (s .phase) [] current [] [] []) number e z)
@@ -39,7 +40,7 @@ module _ (s : State) (r : result.Outcome) (number : ℕ) where
   module _ (waiting : List ℕ) (e : number ≡ refusal Commit (lentTo (s .numbers) (s .phase) [] [] [] [] waiting)) where
     pub commit-done : (n : ℕ) (w : List ℕ) (m : Numbers) → n ≡ s .numbers .l + 1 → w ≡ put waiting (rowAt (s .numbers .slots) n) (rowBytes n (entry what.Commit))
         → m ≡ record { cells = s .numbers .cells; slots = s .numbers .slots; h = s .numbers .h; f = s .numbers .f; l = n; o = n }
-        → r ≡ record { answer = Done n; state = record { numbers = m; phase = Idle } } → number ≡ 0
+        → r ≡ record { answer = Done n; fault = None; state = record { numbers = m; phase = Idle } } → number ≡ 0
         → leaves (answered (r .answer)) (r .state) [] [] [] [] w ≡ act Commit (handed s [] [] [] [] waiting)
     unfolding performed leaves handed lentTo stateOf withState withWaiting madeTo append
     commit-done n w m p q g f z = rw (f, g, q, p) (numbered-done Commit (lentTo (s .numbers) (s .phase) [] [] [] [] waiting) number e z)
@@ -51,7 +52,7 @@ module _ (s : State) (r : result.Outcome) (number : ℕ) where
       pub write-done : (n at old : ℕ) (c f l w : List ℕ) (m : Numbers) → n ≡ s .numbers .l + 1 → at ≡ cell → old ≡ getD current at 0
           → w ≡ put waiting (rowAt (s .numbers .slots) n) (rowBytes n (entry (what.Update cell old value))) → values c f l ≡ assigned n cell value (values current first last)
           → m ≡ record { cells = s .numbers .cells; slots = s .numbers .slots; h = s .numbers .h; f = s .numbers .f; l = n; o = s .numbers .o }
-          → r ≡ record { answer = Done 0; state = record { numbers = m; phase = Run } } → number ≡ 0
+          → r ≡ record { answer = Done 0; fault = None; state = record { numbers = m; phase = Run } } → number ≡ 0
           → leaves (answered (r .answer)) (r .state) [] c f l w ≡ act (Write cell value) (handed s [] current first last waiting)
       unfolding performed leaves handed lentTo stateOf withState withWaiting madeTo append assign assigned values
       write-done n at old c f l w m p a o q d g x z =
@@ -65,7 +66,7 @@ module _ (s : State) (r : result.Outcome) (number : ℕ) where
         → w ≡ put waiting (rowAt (s .numbers .slots) n) (rowBytes n (entry what.Abort))
         → values c f l ≡ rolledFrom (entryIn w 0 (s .numbers .slots) (s .numbers .cells)) n (s .numbers .l - s .numbers .o) (s .numbers .l) (values current first last)
         → m ≡ record { cells = s .numbers .cells; slots = s .numbers .slots; h = s .numbers .h; f = s .numbers .f; l = n; o = n }
-        → r ≡ record { answer = Done 0; state = record { numbers = m; phase = next } }
+        → r ≡ record { answer = Done 0; fault = None; state = record { numbers = m; phase = next } }
         → leaves (answered (r .answer)) (r .state) [] c f l w ≡ record { answer = done 0; keeper = rolledBack (phaseOf next) (handed s [] current first last waiting) }
     unfolding rolledBack leaves handed lentTo stateOf withState withWaiting madeTo append values
     roll-done next n c f l w m p q d g x =
@@ -88,7 +89,7 @@ module _ (s : State) (r : result.Outcome) (number : ℕ) where
             q ∙ ap (λ x. record { answer = done 0; keeper = pick x (rolledBack idle (handed s [] current first last waiting)) (handed s [] current first last waiting) }) (sym y ∙ bb)
             ∙ numbered-done Abort (lentTo (s .numbers) (s .phase) [] current first last waiting) number e z
 
-        pub abort-idle : b ≡ false → r ≡ record { answer = Done 0; state = record { numbers = s .numbers; phase = s .phase } }
+        pub abort-idle : b ≡ false → r ≡ record { answer = Done 0; fault = None; state = record { numbers = s .numbers; phase = s .phase } }
             → leaves (answered (r .answer)) (r .state) [] current first last waiting ≡ act Abort (handed s [] current first last waiting)
         unfolding performed leaves handed lentTo stateOf
         abort-idle y q =
@@ -109,7 +110,7 @@ module _ (s : State) (r : result.Outcome) (number : ℕ) where
 
         pub begin-idle : (m : Numbers) → b ≡ false
             → m ≡ record { cells = s .numbers .cells; slots = s .numbers .slots; h = s .numbers .h; f = s .numbers .f; l = s .numbers .l; o = s .numbers .l }
-            → r ≡ record { answer = Done 0; state = record { numbers = m; phase = Run } }
+            → r ≡ record { answer = Done 0; fault = None; state = record { numbers = m; phase = Run } }
             → leaves (answered (r .answer)) (r .state) [] current first last waiting ≡ act Begin (handed s [] current first last waiting)
         unfolding performed leaves handed lentTo stateOf opened withState madeTo
         begin-idle m y g q =

@@ -9,6 +9,8 @@ pub mod transaction;
 
 ghost use mathlib.Core.Path.{_≡_};
 use recovery::Step;
+use refusal::Refusal;
+use row::Fault;
 use state::Numbers;
 use state::Phase;
 
@@ -24,8 +26,10 @@ pub enum Answer {
     Refused(u32),
 }
 
+// Beside 2 and 7 what is wrong with the lowest bad row, and the entry expected there.
 pub struct Outcome {
     pub answer: Answer,
+    pub fault: Fault,
     pub state: State,
 }
 
@@ -61,19 +65,33 @@ fn made(numbers: Numbers, l: u32, o: u32) -> Numbers
 }
 
 fn refused(state: State, number: u32) -> Outcome
-    ensures { λ r. ⌜ r ≡ record { answer = Answer.Refused number; state = state } ⌝ }
+    ensures { λ r. ⌜ r ≡ record { answer = Answer.Refused number; fault = Fault.None; state = state } ⌝ }
 {
     Outcome {
         answer: Answer::Refused(number),
+        fault: Fault::None,
+        state,
+    }
+}
+
+// A refusal that may have a row for its reason.
+fn refused_with(state: State, no: Refusal) -> Outcome
+    ensures { λ r. ⌜ r ≡ record { answer = Answer.Refused (no .number); fault = no .fault; state = state } ⌝ }
+{
+    let fault = no.fault;
+    Outcome {
+        answer: Answer::Refused(no.number),
+        fault,
         state,
     }
 }
 
 fn done(value: u64, numbers: Numbers, phase: Phase) -> Outcome
-    ensures { λ r. ⌜ r ≡ record { answer = Answer.Done value; state = record { numbers = numbers; phase = phase } } ⌝ }
+    ensures { λ r. ⌜ r ≡ record { answer = Answer.Done value; fault = Fault.None; state = record { numbers = numbers; phase = phase } } ⌝ }
 {
     Outcome {
         answer: Answer::Done(value),
+        fault: Fault::None,
         state: State { numbers, phase },
     }
 }

@@ -1,10 +1,11 @@
 // Recovery, by the calls of the crate `recovery`.
 ghost use mathlib.Core.Path.{_≡_};
 ghost use mathlib.Core.List.{[]};
-ghost use Rattle.scope.specs.Refusals.{RecoveryStart, RecoveryStep};
+ghost use Rattle.scope.specs.Refusals.{RecoveryStart, RecoveryStep, told};
 ghost use Rattle.scope.specs.Calls.{act};
 ghost use Rattle.state.specs.Lent.{stateless};
 ghost use Rattle.recovery.specs.Answers.{numbered, stepped};
+ghost use Rattle.row.specs.Row.{faultOf};
 ghost use Rattle.keeper.specs.Answers.{answered, handed, leaves};
 use crate::Answer;
 use crate::Outcome;
@@ -34,13 +35,15 @@ impl State {
         ensures { λ r.
             let before = stateless (now (medium .entry)) (now (current .entry)) (now (first .entry)) (now (last .entry)) (now (waiting .entry)) in
             let after = leaves (answered (r .answer)) (r .state) (now (medium .entry)) (now (current .exit)) (now (first .exit)) (now (last .exit)) (now (waiting .entry)) in
-            ⌜ after ≡ act RecoveryStart before ⌝ }
+            ⌜ (after ≡ act RecoveryStart before) × (faultOf (r .fault) ≡ told RecoveryStart before) ⌝ }
     {
         let start = recovery::recovery_start(medium, current, first, last, waiting);
         let numbers = start.numbers;
         let phase = start.phase;
+        let fault = start.fault;
         Outcome {
             answer: answer_of(start.number),
+            fault,
             state: State { numbers, phase },
         }
     }

@@ -2,15 +2,16 @@
 ghost use mathlib.Core.Path.{_≡_};
 ghost use mathlib.Core.List.{[]};
 ghost use Prim.Native.Nat.{_+_};
-ghost use Rattle.scope.specs.Refusals.{Force, WriteBack, Cut};
+ghost use Rattle.scope.specs.Refusals.{Force, WriteBack, Cut, told};
 ghost use Rattle.scope.specs.Calls.{act};
+ghost use Rattle.row.specs.Row.{faultOf};
 ghost use Rattle.keeper.specs.Answers.{answered, writtenBack, handed, leaves};
 use crate::Back;
 use crate::Outcome;
 use crate::State;
 use crate::WrittenBack;
 use crate::done;
-use crate::refused;
+use crate::refused_with;
 use medium::head::store_head;
 use medium::layout::index;
 use medium::table::store_cell;
@@ -23,13 +24,13 @@ impl State {
         ensures { λ r.
             let before = handed self (now (medium .entry)) [] [] [] (now (waiting .entry)) in
             let after = leaves (answered (r .answer)) (r .state) (now (medium .exit)) [] [] [] (now (waiting .entry)) in
-            ⌜ after ≡ act Force before ⌝ }
+            ⌜ (after ≡ act Force before) × (faultOf (r .fault) ≡ told Force before) ⌝ }
     {
         let numbers = self.numbers;
         let phase = self.phase;
         let no = refusal::force(numbers, phase, medium, waiting);
-        if no != 0 {
-            return refused(self, no);
+        if no.number != 0 {
+            return refused_with(self, no);
         }
         if numbers.f >= numbers.l {
             return done(0, numbers, phase);
@@ -91,13 +92,13 @@ impl State {
         ensures { λ r.
             let before = handed self (now (medium .entry)) [] (now (first .entry)) [] [] in
             let after = leaves (answered (r .answer)) (r .state) (now (medium .exit)) [] (now (first .entry)) [] [] in
-            ⌜ after ≡ act (Cut p) before ⌝ }
+            ⌜ (after ≡ act (Cut p) before) × (faultOf (r .fault) ≡ told (Cut p) before) ⌝ }
     {
         let numbers = self.numbers;
         let phase = self.phase;
         let no = refusal::cut(numbers, phase, p, medium, first);
-        if no != 0 {
-            return refused(self, no);
+        if no.number != 0 {
+            return refused_with(self, no);
         }
         store_head(medium, numbers.cells, numbers.slots, p);
         let next = Numbers {

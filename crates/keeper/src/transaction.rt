@@ -3,9 +3,10 @@ ghost use mathlib.Core.Path.{_≡_};
 ghost use mathlib.Core.List.{[]};
 ghost use Prim.Native.Nat.{_+_};
 ghost use Rattle.scope.specs.Calls.{rolledBack, act};
-ghost use Rattle.scope.specs.Refusals.{Begin, Read, Write, Commit, Abort};
+ghost use Rattle.scope.specs.Refusals.{Begin, Read, Write, Commit, Abort, told};
 ghost use Rattle.scope.specs.Keeper.{done};
 ghost use Rattle.state.specs.State.{phaseOf};
+ghost use Rattle.row.specs.Row.{faultOf};
 ghost use Rattle.keeper.specs.Answers.{answered, handed, leaves};
 ghost use Rattle.keeper.specs.Rolling.{Rolling};
 use crate::Outcome;
@@ -13,8 +14,10 @@ use crate::State;
 use crate::done;
 use crate::made;
 use crate::refused;
+use crate::refused_with;
 use medium::layout::index;
 use row::Entry;
+use row::Fault;
 use state::Phase;
 use state::is_run;
 
@@ -24,7 +27,7 @@ impl State {
         ensures { λ r.
             let before = handed self [] (now (current .entry)) [] [] [] in
             let after = leaves (answered (r .answer)) (r .state) [] (now (current .entry)) [] [] [] in
-            ⌜ after ≡ act (Read cell) before ⌝ }
+            ⌜ (after ≡ act (Read cell) before) × (faultOf (r .fault) ≡ told (Read cell) before) ⌝ }
     {
         let numbers = self.numbers;
         let phase = self.phase;
@@ -50,7 +53,7 @@ impl State {
         ensures { λ r.
             let before = handed self [] (now (current .entry)) (now (first .entry)) (now (last .entry)) (now (waiting .entry)) in
             let after = leaves (answered (r .answer)) (r .state) [] (now (current .exit)) (now (first .exit)) (now (last .exit)) (now (waiting .exit)) in
-            ⌜ after ≡ act (Write cell value) before ⌝ }
+            ⌜ (after ≡ act (Write cell value) before) × (faultOf (r .fault) ≡ told (Write cell value) before) ⌝ }
     {
         let numbers = self.numbers;
         let phase = self.phase;
@@ -81,7 +84,7 @@ impl State {
         ensures { λ r.
             let before = handed self [] [] [] [] (now (waiting .entry)) in
             let after = leaves (answered (r .answer)) (r .state) [] [] [] [] (now (waiting .exit)) in
-            ⌜ after ≡ act Commit before ⌝ }
+            ⌜ (after ≡ act Commit before) × (faultOf (r .fault) ≡ told Commit before) ⌝ }
     {
         let numbers = self.numbers;
         let phase = self.phase;
@@ -106,13 +109,13 @@ impl State {
         ensures { λ r.
             let before = handed self [] (now (current .entry)) (now (first .entry)) (now (last .entry)) (now (waiting .entry)) in
             let after = leaves (answered (r .answer)) (r .state) [] (now (current .exit)) (now (first .exit)) (now (last .exit)) (now (waiting .exit)) in
-            ⌜ after ≡ act Abort before ⌝ }
+            ⌜ (after ≡ act Abort before) × (faultOf (r .fault) ≡ told Abort before) ⌝ }
     {
         let numbers = self.numbers;
         let phase = self.phase;
         let no = refusal::abort(numbers, phase, current, first, last, waiting);
-        if no != 0 {
-            return refused(self, no);
+        if no.number != 0 {
+            return refused_with(self, no);
         }
         let running = is_run(phase);
         if running {
@@ -133,13 +136,13 @@ impl State {
         ensures { λ r.
             let before = handed self [] (now (current .entry)) (now (first .entry)) (now (last .entry)) (now (waiting .entry)) in
             let after = leaves (answered (r .answer)) (r .state) [] (now (current .exit)) (now (first .exit)) (now (last .exit)) (now (waiting .exit)) in
-            ⌜ after ≡ act Begin before ⌝ }
+            ⌜ (after ≡ act Begin before) × (faultOf (r .fault) ≡ told Begin before) ⌝ }
     {
         let numbers = self.numbers;
         let phase = self.phase;
         let no = refusal::begin(numbers, phase, current, first, last, waiting);
-        if no != 0 {
-            return refused(self, no);
+        if no.number != 0 {
+            return refused_with(self, no);
         }
         let running = is_run(phase);
         if running {
@@ -161,7 +164,8 @@ impl State {
         requires { ⌜ Rolling (self .numbers) (now current) (now first) (now last) (now waiting) ⌝ }
         ensures { λ r.
             let after = leaves (answered (r .answer)) (r .state) [] (now (current .exit)) (now (first .exit)) (now (last .exit)) (now (waiting .exit)) in
-            ⌜ after ≡ record { answer = done 0; keeper = rolledBack (phaseOf next) (handed self [] (now (current .entry)) (now (first .entry)) (now (last .entry)) (now (waiting .entry))) } ⌝ }
+            let before = handed self [] (now (current .entry)) (now (first .entry)) (now (last .entry)) (now (waiting .entry)) in
+            ⌜ (after ≡ record { answer = done 0; keeper = rolledBack (phaseOf next) before }) × (r .fault ≡ Fault.None) ⌝ }
     {
         let numbers = self.numbers;
         let l = numbers.l;

@@ -5,22 +5,25 @@ use mathlib.Core.Path.{refl, sym, _∙_}
 use Rattle.keeper.proofs.Passed.{abort-passed}
 use Rattle.keeper.proofs.Transactions.{abort-run, abort-idle}
 use Rattle.scope.specs.Refusals.{Abort}
-use Rattle.keeper.proofs.Unless.{refused-leaves}
+use Rattle.keeper.proofs.Unless.{refused-leaves, done-tells, done-fault}
 use Rattle.keeper.proofs.State.abort.Statement.{statement}
 use Rattle.keeper.proofs.State.abort.Tie as tie
 
 returns : tie.Need-returns
-returns c = refused-leaves Abort _ [] _ _ _ _ (λ k. refl) _ _ (c .before .before .abort .ensures) (c .refused .ensures) (c .before .if1 .taken)
+returns c =
+    let p1 = c .before in
+    let p3 = p1 .before .before in
+    refused-leaves Abort _ [] _ _ _ _ _ _ (p3 .abort .ensures .0) (λ k. refl) _ (c .refused-with .ensures) (p1 .if1 .taken) (p3 .abort .ensures .1)
 
 roll-back-requires : tie.Need-roll-back-requires
 roll-back-requires c κs =
     let p4 = c .before .before .before .before in
     let p5 = p4 .before in
     let p6 = p5 .before in
-    let p7 = p6 .before in
-    let p17 = p7 .before .before .before .before .before .before .before .before .before .before in
-    let a = p17 .args in
-    abort-passed (a .self .numbers) (a .self .phase) [] (a .current .now) (a .first .now) (a .last .now) (a .waiting .now) (sym (p7 .abort .ensures) ∙ p6 .if1 .left) (sym (p5 .is-run .ensures) ∙ p4 .if2 .taken)
+    let p8 = p6 .before .before in
+    let p18 = p8 .before .before .before .before .before .before .before .before .before .before in
+    let a = p18 .args in
+    abort-passed (a .self .numbers) (a .self .phase) [] (a .current .now) (a .first .now) (a .last .now) (a .waiting .now) (sym (p8 .abort .ensures .0) ∙ p6 .if1 .left) (sym (p5 .is-run .ensures) ∙ p4 .if2 .taken)
 
 returns-2 : tie.Need-returns-2
 returns-2 c =
@@ -28,17 +31,24 @@ returns-2 c =
     let p13 = p8 .before .before .before .before .before in
     let p14 = p13 .before in
     let p15 = p14 .before in
-    let p16 = p15 .before in
-    let p26 = p16 .before .before .before .before .before .before .before .before .before .before in
-    abort-run (p26 .args .self) (p8 .roll-back .result) _ _ _ _ _ (p16 .abort .ensures) (p15 .if1 .left) _ (p14 .is-run .ensures) _ (p13 .if2 .taken) (p8 .roll-back .ensures)
+    let p17 = p15 .before .before in
+    let p27 = p17 .before .before .before .before .before .before .before .before .before .before in
+    let s = p27 .args .self in (
+      abort-run s (p8 .roll-back .result) _ _ _ _ _ (p17 .abort .ensures .0) (p15 .if1 .left) _ (p14 .is-run .ensures) _ (p13 .if2 .taken) (p8 .roll-back .ensures .0),
+      done-tells Abort s [] _ _ _ _ (p8 .roll-back .result) _ (p17 .abort .ensures .0) (p15 .if1 .left) (p8 .roll-back .ensures .1),
+    )
 
 returns-3 : tie.Need-returns-3
 returns-3 c =
-    let p2 = c .before .before in
+    let p1 = c .before in
+    let p2 = p1 .before in
     let p3 = p2 .before in
-    let p4 = p3 .before in
-    let p14 = p4 .before .before .before .before .before .before .before .before .before .before in
-    abort-idle (p14 .args .self) _ _ _ _ _ _ (p4 .abort .ensures) (p3 .if1 .left) _ (p2 .is-run .ensures) (c .before .if2 .left) (c .done .ensures)
+    let p5 = p3 .before .before in
+    let p15 = p5 .before .before .before .before .before .before .before .before .before .before in
+    let s = p15 .args .self in (
+      abort-idle s _ _ _ _ _ _ (p5 .abort .ensures .0) (p3 .if1 .left) _ (p2 .is-run .ensures) (p1 .if2 .left) (c .done .ensures),
+      done-tells Abort s [] _ _ _ _ (c .done .result) _ (p5 .abort .ensures .0) (p3 .if1 .left) (done-fault _ _ _ (c .done .ensures)),
+    )
 
 pub abort-spec : {M : Type 1} → statement M
 abort-spec =

@@ -6,35 +6,45 @@ use native.Mathlib.Omega.{arith}
 use Rattle.keeper.proofs.Passed.{force-passed}
 use Rattle.keeper.proofs.Stores.{force-none, force-stored}
 use Rattle.scope.specs.Refusals.{Force}
-use Rattle.keeper.proofs.Unless.{refused-leaves}
+use Rattle.keeper.proofs.Unless.{refused-leaves, done-tells, done-fault}
 use Rattle.keeper.proofs.State.force.Statement.{statement}
 use Rattle.keeper.proofs.State.force.Tie as tie
 
 returns : tie.Need-returns
-returns c = refused-leaves Force _ _ [] [] [] _ (λ k. refl) _ _ (c .before .before .force .ensures) (c .refused .ensures) (c .before .if1 .taken)
+returns c =
+    let p1 = c .before in
+    let p3 = p1 .before .before in
+    refused-leaves Force _ _ [] [] [] _ _ _ (p3 .force .ensures .0) (λ k. refl) _ (c .refused-with .ensures) (p1 .if1 .taken) (p3 .force .ensures .1)
 
 returns-2 : tie.Need-returns-2
 returns-2 c =
     let p3 = c .before .before .before in
-    let p4 = p3 .before in
-    let p9 = p4 .before .before .before .before .before in
-    force-none (p9 .args .self) _ _ _ _ (p4 .force .ensures) (p3 .if1 .left) (omega arith) (c .done .ensures)
+    let p5 = p3 .before .before in
+    let p10 = p5 .before .before .before .before .before in
+    let s = p10 .args .self in (
+      force-none s _ _ _ _ (p5 .force .ensures .0) (p3 .if1 .left) (omega arith) (c .done .ensures),
+      done-tells Force s _ [] [] [] _ (c .done .result) _ (p5 .force .ensures .0) (p3 .if1 .left) (done-fault _ _ _ (c .done .ensures)),
+    )
 
 store-row-requires : tie.Need-store-row-requires
 store-row-requires c κs =
     let p4 = c .before .before .before .before in
-    let p5 = p4 .before in
-    let p10 = p5 .before .before .before .before .before in
-    let a = p10 .args in
-    let w = force-passed (a .self .numbers) (a .self .phase) (a .medium .now) [] [] [] (a .waiting .now) (sym (p5 .force .ensures) ∙ p4 .if1 .left) in omega (arith, w .0, w .1, w .2)
+    let p6 = p4 .before .before in
+    let p11 = p6 .before .before .before .before .before in
+    let a = p11 .args in
+    let w = force-passed (a .self .numbers) (a .self .phase) (a .medium .now) [] [] [] (a .waiting .now) (sym (p6 .force .ensures .0) ∙ p4 .if1 .left) in
+    omega (arith, w .0, w .1, w .2)
 
 returns-3 : tie.Need-returns-3
 returns-3 c =
     let p3 = c .before .before .before in
     let p8 = p3 .before .before .before .before .before in
-    let p9 = p8 .before in
-    let p14 = p9 .before .before .before .before .before in
-    force-stored (p14 .args .self) _ _ _ _ (p9 .force .ensures) _ _ (p8 .if1 .left) (omega arith) refl (p3 .store-row .ensures) (c .done2 .ensures)
+    let p10 = p8 .before .before in
+    let p15 = p10 .before .before .before .before .before in
+    let s = p15 .args .self in (
+      force-stored s _ _ _ _ (p10 .force .ensures .0) _ _ (p8 .if1 .left) (omega arith) refl (p3 .store-row .ensures) (c .done2 .ensures),
+      done-tells Force s _ [] [] [] _ (c .done2 .result) _ (p10 .force .ensures .0) (p8 .if1 .left) (done-fault _ _ _ (c .done2 .ensures)),
+    )
 
 pub force-spec : {M : Type 1} → statement M
 force-spec =

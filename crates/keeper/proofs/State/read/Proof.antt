@@ -6,12 +6,15 @@ use native.Mathlib.Omega.{arith}
 use Rattle.keeper.proofs.Passed.{read-passed}
 use Rattle.keeper.proofs.Transactions.{read-done}
 use Rattle.scope.specs.Refusals.{Read}
-use Rattle.keeper.proofs.Unless.{refused-leaves}
+use Rattle.keeper.proofs.Unless.{refused-leaves, done-tells, done-fault, read-silent}
 use Rattle.keeper.proofs.State.read.Statement.{statement}
 use Rattle.keeper.proofs.State.read.Tie as tie
 
 returns : tie.Need-returns
-returns c = refused-leaves (Read _) _ [] _ [] [] [] (λ k. refl) _ _ (c .before .before .read .ensures) (c .refused .ensures) (c .before .if1 .taken)
+returns c =
+    let p1 = c .before in
+    let p2 = p1 .before in
+    refused-leaves (Read _) _ [] _ [] [] [] _ _ (p2 .read .ensures) (λ k. refl) _ (c .refused .ensures) (p1 .if1 .taken) (read-silent _ _)
 
 shared-slice-read-done : tie.Need-shared-slice-read-done
 shared-slice-read-done c =
@@ -24,7 +27,10 @@ returns-2 c =
     let p3 = p2 .before in
     let p4 = p3 .before in
     let p7 = p4 .before .before .before in
-    read-done (p7 .args .self) _ _ _ _ (p4 .read .ensures) _ _ (p2 .index .ensures .0) refl (c .done .ensures) (p3 .if1 .left)
+    let s = p7 .args .self in (
+      read-done s _ _ _ _ (p4 .read .ensures) _ _ (p2 .index .ensures .0) refl (c .done .ensures) (p3 .if1 .left),
+      done-tells (Read _) s [] _ [] [] [] (c .done .result) _ (p4 .read .ensures) (p3 .if1 .left) (done-fault _ _ _ (c .done .ensures)),
+    )
 
 pub read-spec : {M : Type 1} → statement M
 read-spec =

@@ -5,7 +5,9 @@ use Rattle.keeper.proofs.State.recovery_start.Statement.{statement}
 use Rattle.keeper.proofs.State.recovery_start.Tie as tie
 
 returns : tie.Need-returns
-returns c = start-leaves _ _ _ _ _ _ _ _ _ _ (c .answer-of .ensures) (c .before .before .before .before .before .before .before .before .recovery-start .ensures)
+returns c =
+    let p8 = c .before .before .before .before .before .before .before .before in
+    (start-leaves _ _ _ _ _ _ _ _ _ _ (c .answer-of .ensures) (p8 .recovery-start .ensures .0), p8 .recovery-start .ensures .1)
 
 pub recovery-start-spec : {M : Type 1} → statement M
 recovery-start-spec =

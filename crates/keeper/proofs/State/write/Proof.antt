@@ -6,12 +6,15 @@ use native.Mathlib.Omega.{arith}
 use Rattle.keeper.proofs.Passed.{write-passed}
 use Rattle.keeper.proofs.Transactions.{write-done}
 use Rattle.scope.specs.Refusals.{Write}
-use Rattle.keeper.proofs.Unless.{refused-leaves}
+use Rattle.keeper.proofs.Unless.{refused-leaves, done-tells, done-fault, write-silent}
 use Rattle.keeper.proofs.State.write.Statement.{statement}
 use Rattle.keeper.proofs.State.write.Tie as tie
 
 returns : tie.Need-returns
-returns c = refused-leaves (Write _ _) _ [] _ _ _ _ (λ k. refl) _ _ (c .before .before .write .ensures _) (c .refused .ensures) (c .before .if1 .taken)
+returns c =
+    let p1 = c .before in
+    let p2 = p1 .before in
+    refused-leaves (Write _ _) _ [] _ _ _ _ _ _ (p2 .write .ensures _) (λ k. refl) _ (c .refused .ensures) (p1 .if1 .taken) (write-silent _ _ _)
 
 add-n : tie.Need-add-n
 add-n c =
@@ -46,13 +49,17 @@ assign-requires c κs =
 
 returns-2 : tie.Need-returns-2
 returns-2 c =
-    let p8 = c .before .before .before .before .before .before .before .before in
+    let p1 = c .before in
+    let p8 = p1 .before .before .before .before .before .before .before in
     let p14 = p8 .before .before .before .before .before .before in
     let p17 = p14 .before .before .before in
     let p19 = p17 .before .before in
     let p20 = p19 .before in
     let p30 = p20 .before .before .before .before .before .before .before .before .before .before in
-    write-done (p30 .args .self) _ _ _ _ _ _ _ _ (p20 .write .ensures) _ _ _ _ _ _ _ _ refl (p17 .index .ensures .0) refl (p14 .append .ensures) (p8 .assign .ensures) (c .before .made .ensures) (c .done .ensures) (p19 .if1 .left)
+    let s = p30 .args .self in (
+      write-done s _ _ _ _ _ _ _ _ (p20 .write .ensures) _ _ _ _ _ _ _ _ refl (p17 .index .ensures .0) refl (p14 .append .ensures) (p8 .assign .ensures) (p1 .made .ensures) (c .done .ensures) (p19 .if1 .left),
+      done-tells (Write _ _) s [] _ _ _ _ (c .done .result) _ (p20 .write .ensures _) (p19 .if1 .left) (done-fault _ _ _ (c .done .ensures)),
+    )
 
 pub write-spec : {M : Type 1} → statement M
 write-spec =
