@@ -3,20 +3,23 @@ use Prim.Native.Nat.{ℕ}
 use mathlib.Core.Path.{_≡_, sym, ap, _∙_}
 use mathlib.Core.Bool.{Bool, true, false}
 use mathlib.Core.List.{List}
+use native.Mathlib.Omega.{arith}
 use borrow.Author.Tests.{eq-eqb, ne-eqb}
 use lib.ListN.{length}
 use Rattle.scope.specs.Bytes.{pick}
 use Rattle.scope.specs.Keeper.{Answer, Outcome, State, refused, noState, refusalOf}
-use Rattle.scope.specs.Refusals.{Call, RecoveryStart}
+use Rattle.scope.specs.Row.{Fault, faultReason, faultEntry}
+use Rattle.scope.specs.Refusals.{Call, RecoveryStart, refusal, told}
 use Rattle.scope.specs.Calls.{act}
-use Rattle.scope.proofs.Callers.{takesState}
+use Rattle.scope.proofs.Callers.{takesState, refusal-answered}
+use Rattle.scope.proofs.Told.{told-nothing}
 use Rattle.state.specs.State.{stateOf}
 use Rattle.state.specs.Lent.{lentTo, stateless}
 use Rattle.keeper.specs.Answers.{handed, leaves}
 use Rattle.keeper.specs.declared.State as code
 use Rattle.boundary.proofs.SevenNumbers.{put-back}
 use Rattle.boundary.proofs.Unsound.{zeros-refused}
-use Rattle.boundary.specs.Boundary.{numbersOf, isState, seven, stateIn, stateAfter, result, noValue, lentOver, handedBack, over, startOver}
+use Rattle.boundary.specs.Boundary.{numbersOf, isState, seven, stateIn, stateAfter, result, noValue, lentOver, handedBack, over, startOver, startTold, Tells}
 
 module _ (xs m c f l w : List ℕ) (t : Bool) (e : t ≡ isState xs) where
   -- the keeper that is lent
@@ -61,12 +64,32 @@ module _ (xs m c f l w : List ℕ) (t : Bool) (e : t ≡ isState xs) where
         (ap (λ b. handedBack value (pick b (numbersOf noState) xs) o) (sym p ∙ e)
         ∙ ap (λ (x : Outcome). handedBack value (stateAfter xs (x .keeper .state)) x) (sym r ∙ ap (act which) (lent-none p)))
 
+  module _ (which : Call) where
+    -- what is told of rows
+    pub tells-crossed : t ≡ true → (s : code.State) → stateOf (s .numbers) (s .phase) ≡ seven xs → (wrong : Fault) → wrong ≡ told which (handed s m c f l w)
+        → (reason entry : ℕ) → reason ≡ faultReason wrong → entry ≡ faultEntry wrong → Tells (told which (lentOver xs m c f l w)) reason entry
+    tells-crossed p s q wrong d reason entry x y =
+        let z = d ∙ ap (told which) (lent-state p s q) in (x ∙ ap faultReason z, y ∙ ap faultEntry z)
+
+    pub no-state-tells : t ≡ false → takesState which → Tells (told which (lentOver xs m c f l w)) 0 0
+    no-state-tells p x =
+        let k = stateless m c f l w in
+        let n : 1 ≡ refusal which k = sym (ap (λ (o : Outcome). refusalOf (o .answer)) (zeros-refused which x m c f l w)) ∙ refusal-answered which k in
+        let z = told-nothing which k 1 n (λ h. omega arith) (λ h. omega arith) ∙ ap (told which) (lent-none p) in
+        (ap faultReason z, ap faultEntry z)
+
 -- recovery start
 
 module _ (xs m c f l w : List ℕ) where
-  pub start-other : (length xs ≡ 7 → ⊥) → result 1 0 xs m c f l w ≡ startOver xs m c f l w
-  unfolding startOver
-  start-other h = simp (ne-eqb (length xs) 7 h)
+  pub start-other : (length xs ≡ 7 → ⊥) → (result 1 0 xs m c f l w ≡ startOver xs m c f l w) × Tells (startTold xs m c f l w) 0 0
+  unfolding startOver startTold
+  start-other h = (simp (ne-eqb (length xs) 7 h), (simp (ne-eqb (length xs) 7 h), simp (ne-eqb (length xs) 7 h)))
+
+  pub start-tells : length xs ≡ 7 → (wrong : Fault) → wrong ≡ told RecoveryStart (stateless m c f l w)
+      → (reason entry : ℕ) → reason ≡ faultReason wrong → entry ≡ faultEntry wrong → Tells (startTold xs m c f l w) reason entry
+  unfolding startTold stateless
+  start-tells h wrong d reason entry x y =
+      let z : wrong ≡ startTold xs m c f l w = d ∙ simp (eq-eqb (length xs) 7 h) in (x ∙ ap faultReason z, y ∙ ap faultEntry z)
 
   pub start-crossed : length xs ≡ 7 → (next : code.State) (a : Answer) (m2 c2 f2 l2 w2 : List ℕ) (number : ℕ) (ys : List ℕ)
       → leaves a next m2 c2 f2 l2 w2 ≡ act RecoveryStart (stateless m c f l w) → number ≡ refusalOf a → ys ≡ numbersOf (stateOf (next .numbers) (next .phase))

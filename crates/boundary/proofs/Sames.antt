@@ -1,11 +1,12 @@
 -- Two outcomes that the contract of an export permits are equal. Each contract equates the `result` of the call, all that a host has after it, with what one
--- definition gives of what was lent; look's and table view's fix the number and the place. These laws hold of any right side, and so of each contract as it
+-- definition gives of what was lent; look's and table view's fix the number and the place, and five calls' what is told of a row. These laws hold of any right side, and so of each contract as it
 -- stands. By taking the record apart.
 use Prim.Native.Nat.{ℕ}
 use mathlib.Core.Path.{_≡_, sym, ap, _∙_}
 use mathlib.Core.List.{List}
 use Rattle.scope.specs.Keeper.{Keeper}
-use Rattle.boundary.specs.Boundary.{Result, result}
+use Rattle.scope.specs.Row.{Fault}
+use Rattle.boundary.specs.Boundary.{Result, result, Tells}
 use Rattle.boundary.specs.Parts.{Looked, Viewed}
 
 pub record Same (n n′ v v′ : ℕ) (s s′ m m′ c c′ f f′ l l′ w w′ : List ℕ) : Type 0 where
@@ -39,3 +40,6 @@ looked-same i k n n′ v v′ p q = (p .answers ∙ sym (q .answers), p .place �
 
 pub viewed-same : (m : List ℕ) (n n′ v v′ : ℕ) → Viewed m n v → Viewed m n′ v′ → (n ≡ n′) × (v ≡ v′)
 viewed-same m n n′ v v′ p q = (p .answers ∙ sym (q .answers), p .place ∙ sym (q .place))
+
+pub tells-same : (w : Fault) (r r′ e e′ : ℕ) → Tells w r e → Tells w r′ e′ → (r ≡ r′) × (e ≡ e′)
+tells-same w r r′ e e′ p q = (p .0 ∙ sym (q .0), p .1 ∙ sym (q .1))

@@ -1,13 +1,15 @@
 -- What crosses the boundary: the state as seven numbers, and what a call hands back, by the papers' definition of the call.
 use Prim.Native.Nat.{ℕ}
 use mathlib.Core.Bool.{Bool, _&&_}
+use mathlib.Core.Path.{_≡_}
 use mathlib.Core.List.{List, [], _∷_}
 use mathlib.Core.Option.{Option, none, some}
 use lib.Dec.{eqb, leb}
 use lib.ListN.{length, getD}
 use Rattle.scope.specs.Bytes.{pick}
 use Rattle.scope.specs.Keeper.{Phase, idle, run, recovering, State, Keeper, Answer, Outcome, done, refused, cell, head, clean, stored, part, noState, refusalOf}
-use Rattle.scope.specs.Refusals.{Call, RecoveryStart}
+use Rattle.scope.specs.Row.{Fault, faultless, faultReason, faultEntry}
+use Rattle.scope.specs.Refusals.{Call, RecoveryStart, told}
 use Rattle.scope.specs.Calls.{act}
 
 abbrev pub phaseNo : Phase → ℕ
@@ -109,3 +111,14 @@ unfoldable pub startOver : List ℕ → List ℕ → List ℕ → List ℕ → L
 startOver state medium current first last waiting =
     let o = act RecoveryStart (record { medium = medium; current = current; first = first; last = last; waiting = waiting; state = noState }) in
     pick (eqb (length state) 7) (handedBack noValue (numbersOf (o .keeper .state)) o) (result 1 0 state medium current first last waiting)
+
+-- what is told of rows, as a host has it after a call: the reason's number, 0 for none, and the entry's
+abbrev pub Tells : Fault → ℕ → ℕ → Type 0
+Tells w reason entry = (reason ≡ faultReason w) × (entry ≡ faultEntry w)
+
+-- what recovery start tells
+unfoldable pub startTold : List ℕ → List ℕ → List ℕ → List ℕ → List ℕ → List ℕ → Fault
+startTold state medium current first last waiting =
+    pick (eqb (length state) 7)
+    (told RecoveryStart (record { medium = medium; current = current; first = first; last = last; waiting = waiting; state = noState }))
+    faultless

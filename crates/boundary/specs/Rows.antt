@@ -5,7 +5,7 @@ use mathlib.Core.Option.{Option, none, some}
 use lib.Dec.{eqb}
 use lib.ListN.{length}
 use Rattle.scope.specs.Bytes.{pick}
-use Rattle.scope.specs.Row.{Entry, update, commitEntry, abortEntry, writeRow, isWritable}
+use Rattle.scope.specs.Row.{Entry, update, commitEntry, abortEntry, writeRow, isWritable, Reason, reasonNo}
 
 -- the kind of what a row reads as; 0: nothing
 abbrev pub kindOf : Option Entry → ℕ
@@ -14,20 +14,25 @@ kindOf (some (update c old new)) = 1
 kindOf (some commitEntry) = 2
 kindOf (some abortEntry) = 3
 
--- cell, old, new and 0 of an update, else zeros
-abbrev pub fieldsOf : Option Entry → List ℕ
-fieldsOf none = 0 ∷ 0 ∷ 0 ∷ 0 ∷ []
-fieldsOf (some (update c old new)) = c ∷ old ∷ new ∷ 0 ∷ []
-fieldsOf (some commitEntry) = 0 ∷ 0 ∷ 0 ∷ 0 ∷ []
-fieldsOf (some abortEntry) = 0 ∷ 0 ∷ 0 ∷ 0 ∷ []
+-- the number of a reason; 0: none
+abbrev pub wrongNo : Option Reason → ℕ
+wrongNo none = 0
+wrongNo (some x) = reasonNo x
+
+-- cell, old and new of an update, else zeros; then the reason
+abbrev pub fieldsOf : Option Entry → Option Reason → List ℕ
+fieldsOf none x = 0 ∷ 0 ∷ 0 ∷ wrongNo x ∷ []
+fieldsOf (some (update c old new)) x = c ∷ old ∷ new ∷ wrongNo x ∷ []
+fieldsOf (some commitEntry) x = 0 ∷ 0 ∷ 0 ∷ wrongNo x ∷ []
+fieldsOf (some abortEntry) x = 0 ∷ 0 ∷ 0 ∷ wrongNo x ∷ []
 
 pub record Fields : Type 0 where
   pub kind : ℕ
   pub fields : List ℕ
 
 -- what reading a row answers; fields of another length than four are not written, and nothing is read
-unfoldable pub rowRead : Option Entry → List ℕ → Fields
-rowRead e fields = pick (eqb (length fields) 4) (record { kind = kindOf e; fields = fieldsOf e }) (record { kind = 0; fields = fields })
+unfoldable pub rowRead : Option Entry → Option Reason → List ℕ → Fields
+rowRead e x fields = pick (eqb (length fields) 4) (record { kind = kindOf e; fields = fieldsOf e x }) (record { kind = 0; fields = fields })
 
 pub record Written : Type 0 where
   pub number : ℕ

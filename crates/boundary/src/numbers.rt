@@ -1,7 +1,10 @@
 // The state as seven numbers, and answers as a number and a value.
 ghost use mathlib.Core.Path.{_≡_};
 ghost use lib.ListN.{length};
+ghost use Rattle.scope.specs.Row.{reasonNo, faultReason, faultEntry};
 ghost use Rattle.scope.specs.Keeper.{refusalOf, valueOf};
+ghost use Rattle.row.specs.Row.{faultOf};
+ghost use Rattle.row.specs.Row as rows;
 ghost use Rattle.state.specs.State.{phaseOf, stateOf};
 ghost use Rattle.recovery.specs.Answers.{stepped};
 ghost use Rattle.keeper.specs.Answers.{answered, writtenBack};
@@ -11,6 +14,8 @@ use keeper::Answer;
 use keeper::Back;
 use keeper::State;
 use recovery::Step;
+use row::Fault;
+use row::Reason;
 use state::Numbers;
 use state::Phase;
 
@@ -149,5 +154,39 @@ pub fn back_value(answer: Back) -> u64
         Back::Stored => 1,
         Back::Clean => 0,
         Back::Refused(_) => 0,
+    }
+}
+
+pub fn reason_number(reason: Reason) -> u32
+    ensures { λ r. ⌜ r ≡ reasonNo (rows.reason reason) ⌝ }
+{
+    match reason {
+        Reason::TooShort => 1,
+        Reason::OtherNumber => 2,
+        Reason::UnknownKind => 3,
+        Reason::FillerNotZero => 4,
+        Reason::CellOutOfRange => 5,
+        Reason::CellLeft => 6,
+        Reason::OldLeft => 7,
+        Reason::NewLeft => 8,
+        Reason::NotUpdate => 9,
+    }
+}
+
+pub fn fault_reason(fault: Fault) -> u32
+    ensures { λ r. ⌜ r ≡ faultReason (faultOf fault) ⌝ }
+{
+    match fault {
+        Fault::None => 0,
+        Fault::At { reason, entry: _ } => reason_number(reason),
+    }
+}
+
+pub fn fault_entry(fault: Fault) -> u32
+    ensures { λ r. ⌜ r ≡ faultEntry (faultOf fault) ⌝ }
+{
+    match fault {
+        Fault::None => 0,
+        Fault::At { reason: _, entry } => entry,
     }
 }

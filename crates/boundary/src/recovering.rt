@@ -2,8 +2,10 @@
 ghost use mathlib.Core.Path.{_≡_};
 ghost use mathlib.Core.List.{[]};
 ghost use Rattle.scope.specs.Refusals.{RecoveryStep};
-ghost use Rattle.boundary.specs.Boundary.{stepValue, result, over, startOver};
+ghost use Rattle.boundary.specs.Boundary.{stepValue, result, over, startOver, startTold, Tells};
 use crate::numbers::Held;
+use crate::numbers::fault_entry;
+use crate::numbers::fault_reason;
 use crate::numbers::number_of;
 use crate::numbers::put_state;
 use crate::numbers::state_in;
@@ -19,15 +21,23 @@ pub extern "C" fn keeper_recovery_start(
     last: &mut [u32],
     waiting: &[u8],
     state: &mut [u32],
+    reason: &mut u32,
+    entry: &mut u32,
 ) -> u32
     ensures { λ r.
         let after = result r 0 (now (state .exit)) (now (medium .entry)) (now (current .exit)) (now (first .exit)) (now (last .exit)) (now (waiting .entry)) in
-        ⌜ after ≡ startOver (now (state .entry)) (now (medium .entry)) (now (current .entry)) (now (first .entry)) (now (last .entry)) (now (waiting .entry)) ⌝ }
+        let wrong = startTold (now (state .entry)) (now (medium .entry)) (now (current .entry)) (now (first .entry)) (now (last .entry)) (now (waiting .entry)) in
+        ⌜ (after ≡ startOver (now (state .entry)) (now (medium .entry)) (now (current .entry)) (now (first .entry)) (now (last .entry)) (now (waiting .entry))) × Tells wrong (now (reason .exit)) (now (entry .exit)) ⌝ }
 {
     if state.len() != 7 {
+        *reason = 0;
+        *entry = 0;
         return 1;
     }
     let out = State::recovery_start(medium, current, first, last, waiting);
+    let fault = out.fault;
+    *reason = fault_reason(fault);
+    *entry = fault_entry(fault);
     let next = out.state;
     put_state(state, next);
     let answer = out.answer;

@@ -2,13 +2,15 @@
 ghost use mathlib.Core.Path.{_≡_};
 ghost use mathlib.Core.List.{[]};
 ghost use Rattle.scope.specs.Keeper.{valueOf, refusalOf};
-ghost use Rattle.scope.specs.Refusals.{Format, Force, WriteBack, Cut};
+ghost use Rattle.scope.specs.Refusals.{Format, Force, WriteBack, Cut, told};
 ghost use Rattle.scope.specs.Calls.{act};
 ghost use Rattle.medium.specs.Lent.{onMedium};
-ghost use Rattle.boundary.specs.Boundary.{noValue, backValue, result, over};
+ghost use Rattle.boundary.specs.Boundary.{noValue, backValue, result, over, lentOver, Tells};
 use crate::numbers::Held;
 use crate::numbers::back_number;
 use crate::numbers::back_value;
+use crate::numbers::fault_entry;
+use crate::numbers::fault_reason;
 use crate::numbers::number_of;
 use crate::numbers::put_state;
 use crate::numbers::state_in;
@@ -29,16 +31,24 @@ pub extern "C" fn keeper_force(
     medium: &mut [u8],
     waiting: &[u8],
     value: &mut u64,
+    reason: &mut u32,
+    entry: &mut u32,
 ) -> u32
     ensures { λ r.
         let after = result r (now (value .exit)) (now (state .exit)) (now (medium .exit)) [] [] [] (now (waiting .entry)) in
-        ⌜ after ≡ over valueOf Force (now (state .entry)) (now (medium .entry)) [] [] [] (now (waiting .entry)) ⌝ }
+        let wrong = told Force (lentOver (now (state .entry)) (now (medium .entry)) [] [] [] (now (waiting .entry))) in
+        ⌜ (after ≡ over valueOf Force (now (state .entry)) (now (medium .entry)) [] [] [] (now (waiting .entry))) × Tells wrong (now (reason .exit)) (now (entry .exit)) ⌝ }
 {
     let Held::State(s) = state_in(state) else {
         *value = 0;
+        *reason = 0;
+        *entry = 0;
         return 1;
     };
     let out = s.force(medium, waiting);
+    let fault = out.fault;
+    *reason = fault_reason(fault);
+    *entry = fault_entry(fault);
     let answer = out.answer;
     if let Answer::Refused(number) = answer {
         *value = 0;
@@ -77,15 +87,28 @@ pub extern "C" fn keeper_write_back(
 }
 
 #[no_mangle]
-pub extern "C" fn keeper_cut(state: &mut [u32], p: u32, medium: &mut [u8], first: &[u32]) -> u32
+pub extern "C" fn keeper_cut(
+    state: &mut [u32],
+    p: u32,
+    medium: &mut [u8],
+    first: &[u32],
+    reason: &mut u32,
+    entry: &mut u32,
+) -> u32
     ensures { λ r.
         let after = result r 0 (now (state .exit)) (now (medium .exit)) [] (now (first .entry)) [] [] in
-        ⌜ after ≡ over noValue (Cut p) (now (state .entry)) (now (medium .entry)) [] (now (first .entry)) [] [] ⌝ }
+        let wrong = told (Cut p) (lentOver (now (state .entry)) (now (medium .entry)) [] (now (first .entry)) [] []) in
+        ⌜ (after ≡ over noValue (Cut p) (now (state .entry)) (now (medium .entry)) [] (now (first .entry)) [] []) × Tells wrong (now (reason .exit)) (now (entry .exit)) ⌝ }
 {
     let Held::State(s) = state_in(state) else {
+        *reason = 0;
+        *entry = 0;
         return 1;
     };
     let out = s.cut(p, medium, first);
+    let fault = out.fault;
+    *reason = fault_reason(fault);
+    *entry = fault_entry(fault);
     let next = out.state;
     put_state(state, next);
     let answer = out.answer;

@@ -2,9 +2,11 @@
 ghost use mathlib.Core.Path.{_≡_};
 ghost use mathlib.Core.List.{[]};
 ghost use Rattle.scope.specs.Keeper.{valueOf};
-ghost use Rattle.scope.specs.Refusals.{Begin, Read, Write, Commit, Abort};
-ghost use Rattle.boundary.specs.Boundary.{noValue, result, over};
+ghost use Rattle.scope.specs.Refusals.{Begin, Read, Write, Commit, Abort, told};
+ghost use Rattle.boundary.specs.Boundary.{noValue, result, over, lentOver, Tells};
 use crate::numbers::Held;
+use crate::numbers::fault_entry;
+use crate::numbers::fault_reason;
 use crate::numbers::number_of;
 use crate::numbers::put_made;
 use crate::numbers::put_state;
@@ -19,15 +21,23 @@ pub extern "C" fn keeper_begin(
     first: &mut [u32],
     last: &mut [u32],
     waiting: &mut [u8],
+    reason: &mut u32,
+    entry: &mut u32,
 ) -> u32
     ensures { λ r.
         let after = result r 0 (now (state .exit)) [] (now (current .exit)) (now (first .exit)) (now (last .exit)) (now (waiting .exit)) in
-        ⌜ after ≡ over noValue Begin (now (state .entry)) [] (now (current .entry)) (now (first .entry)) (now (last .entry)) (now (waiting .entry)) ⌝ }
+        let wrong = told Begin (lentOver (now (state .entry)) [] (now (current .entry)) (now (first .entry)) (now (last .entry)) (now (waiting .entry))) in
+        ⌜ (after ≡ over noValue Begin (now (state .entry)) [] (now (current .entry)) (now (first .entry)) (now (last .entry)) (now (waiting .entry))) × Tells wrong (now (reason .exit)) (now (entry .exit)) ⌝ }
 {
     let Held::State(s) = state_in(state) else {
+        *reason = 0;
+        *entry = 0;
         return 1;
     };
     let out = s.begin(current, first, last, waiting);
+    let fault = out.fault;
+    *reason = fault_reason(fault);
+    *entry = fault_entry(fault);
     let next = out.state;
     put_state(state, next);
     let answer = out.answer;
@@ -105,15 +115,23 @@ pub extern "C" fn keeper_abort(
     first: &mut [u32],
     last: &mut [u32],
     waiting: &mut [u8],
+    reason: &mut u32,
+    entry: &mut u32,
 ) -> u32
     ensures { λ r.
         let after = result r 0 (now (state .exit)) [] (now (current .exit)) (now (first .exit)) (now (last .exit)) (now (waiting .exit)) in
-        ⌜ after ≡ over noValue Abort (now (state .entry)) [] (now (current .entry)) (now (first .entry)) (now (last .entry)) (now (waiting .entry)) ⌝ }
+        let wrong = told Abort (lentOver (now (state .entry)) [] (now (current .entry)) (now (first .entry)) (now (last .entry)) (now (waiting .entry))) in
+        ⌜ (after ≡ over noValue Abort (now (state .entry)) [] (now (current .entry)) (now (first .entry)) (now (last .entry)) (now (waiting .entry))) × Tells wrong (now (reason .exit)) (now (entry .exit)) ⌝ }
 {
     let Held::State(s) = state_in(state) else {
+        *reason = 0;
+        *entry = 0;
         return 1;
     };
     let out = s.abort(current, first, last, waiting);
+    let fault = out.fault;
+    *reason = fault_reason(fault);
+    *entry = fault_entry(fault);
     let next = out.state;
     put_state(state, next);
     let answer = out.answer;

@@ -126,7 +126,7 @@ module _ (r : List ℕ) (kind c a b : ℕ) where
     )
 
   module _ (h : kind ≡ 1 → ⊥) (i : kind ≡ 2 → ⊥) (j : kind ≡ 3 → ⊥) where
-    no-kind : none ≡ entryOf kind c a b
+    pub no-kind : none ≡ entryOf kind c a b
     unfolding entryOf
     no-kind = simp (ne-eqb kind 1 h, ne-eqb kind 2 i, ne-eqb kind 3 j) (either (eqb c 0 && (eqb a 0 && eqb b 0)))
 

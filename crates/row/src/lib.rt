@@ -60,7 +60,7 @@ pub fn fault_in(row: Row, entry: u32) -> Fault
 }
 
 // An end, in whose row cell, old and new are zero.
-fn ended(what: Entry, cell: u32, old: u64, new: u64) -> Row
+pub fn ended(what: Entry, cell: u32, old: u64, new: u64) -> Row
     ensures { λ r. ⌜ (meaning r ≡ bareEnd (entry what) cell old new) × (reasonOf r ≡ leftOver cell old new) ⌝ }
 {
     if cell != 0 {

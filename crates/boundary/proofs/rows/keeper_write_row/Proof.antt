@@ -8,7 +8,7 @@ use Rattle.boundary.proofs.rows.keeper_write_row.Statement.{statement}
 use Rattle.boundary.proofs.rows.keeper_write_row.Tie as tie
 
 returns : tie.Need-returns
-returns c = written-none _ _ _ (is-nothing _ _ (c .before .before .entry-in .ensures) (c .enum-told .given .1))
+returns c = written-none _ _ _ (is-nothing _ _ (c .before .before .entry-in .ensures) _ (c .enum-told .given .1))
 
 returns-2 : tie.Need-returns-2
 returns-2 c =

@@ -1,27 +1,35 @@
 -- `boundary::storing::keeper_cut` meets its contract. The library's call on the state in the slice, or the state of zeros refused.
 use borrow.Author.Needs.{needs}
 use mathlib.Core.Path.{refl}
-use Rattle.boundary.proofs.Crossing.{crossed, no-state}
+use Rattle.boundary.proofs.Crossing.{crossed, no-state, tells-crossed, no-state-tells}
 use Rattle.boundary.proofs.SevenNumbers.{holds-state, holds-none}
 use Rattle.boundary.proofs.storing.keeper_cut.Statement.{statement}
 use Rattle.boundary.proofs.storing.keeper_cut.Tie as tie
 
 returns : tie.Need-returns
-returns c = no-state _ _ _ _ _ _ _ refl _ _ (holds-none _ _ (c .before .before .state-in .ensures) (c .enum-told .given .1)) refl tt
+returns c =
+    let p2 = c .before .before in
+    let none = holds-none _ _ (p2 .state-in .ensures) (c .enum-told .given .1) in
+    (no-state _ _ _ _ _ _ _ refl _ _ none refl tt, no-state-tells _ _ _ _ _ _ _ refl _ none tt)
 
 put-state-requires : tie.Need-put-state-requires
 put-state-requires c κs =
-    let p7 = c .before .before .before .before .before .before .before in
-    let p9 = p7 .before .before in
-    let h = holds-state _ _ (p9 .state-in .ensures) _ (p7 .s .given .1) in h .is-seven
+    let p9 = c .before .before .before .before .before .before .before .before .before in
+    let p11 = p9 .before .before in
+    holds-state _ _ (p11 .state-in .ensures) _ (p9 .s .given .1) .is-seven
 
 returns-2 : tie.Need-returns-2
 returns-2 c =
     let p3 = c .before .before .before in
-    let p8 = p3 .before .before .before .before .before in
-    let p11 = p8 .before .before .before in
-    let p13 = p11 .before .before in
-    let h = holds-state _ _ (p13 .state-in .ensures) _ (p11 .s .given .1) in crossed _ _ _ _ _ _ _ refl _ _ (h .is-state) _ (p8 .cut .result .state) _ _ _ _ _ _ _ _ _ (h .read) (p8 .cut .ensures) (c .number-of .ensures) refl (p3 .put-state .ensures)
+    let p6 = p3 .before .before .before in
+    let p7 = p6 .before in
+    let p10 = p7 .before .before .before in
+    let p13 = p10 .before .before .before in
+    let p15 = p13 .before .before in
+    let h = holds-state _ _ (p15 .state-in .ensures) _ (p13 .s .given .1) in (
+      crossed _ _ _ _ _ _ _ refl _ _ (h .is-state) _ (p10 .cut .result .state) _ _ _ _ _ _ _ _ _ (h .read) (p10 .cut .ensures .0) (c .number-of .ensures) refl (p3 .put-state .ensures),
+      tells-crossed _ _ _ _ _ _ _ refl _ (h .is-state) _ (h .read) _ (p10 .cut .ensures .1) _ _ (p7 .fault-reason .ensures) (p6 .fault-entry .ensures),
+    )
 
 pub keeper-cut-spec : {M : Type 1} → statement M
 keeper-cut-spec =
@@ -32,6 +40,8 @@ keeper-cut-spec =
     (λ c. search needs)
     (λ c. search needs)
     returns
+    (λ c κs. search needs)
+    (λ c κs. search needs)
     (λ c κs. search needs)
     put-state-requires
     (λ c κs. search needs)

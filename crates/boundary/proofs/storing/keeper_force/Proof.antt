@@ -1,35 +1,50 @@
 -- `boundary::storing::keeper_force` meets its contract. The library's call on the state in the slice, or the state of zeros refused.
 use borrow.Author.Needs.{needs}
 use mathlib.Core.Path.{refl}
-use Rattle.boundary.proofs.Crossing.{crossed, no-state}
+use Rattle.boundary.proofs.Crossing.{crossed, no-state, tells-crossed, no-state-tells}
 use Rattle.boundary.proofs.Kept.{force-keeps, refused-crossed}
 use Rattle.boundary.proofs.SevenNumbers.{holds-state, holds-none}
 use Rattle.boundary.proofs.storing.keeper_force.Statement.{statement}
 use Rattle.boundary.proofs.storing.keeper_force.Tie as tie
 
 returns : tie.Need-returns
-returns c = no-state _ _ _ _ _ _ _ refl _ _ (holds-none _ _ (c .before .before .state-in .ensures) (c .enum-told .given .1)) refl tt
+returns c =
+    let p2 = c .before .before in
+    let none = holds-none _ _ (p2 .state-in .ensures) (c .enum-told .given .1) in
+    (no-state _ _ _ _ _ _ _ refl _ _ none refl tt, no-state-tells _ _ _ _ _ _ _ refl _ none tt)
 
 returns-2 : tie.Need-returns-2
 returns-2 c =
-    let p5 = c .before .before .before .before .before in
-    let p8 = p5 .before .before .before in
-    let p10 = p8 .before .before in
-    let h = holds-state _ _ (p10 .state-in .ensures) _ (p8 .s .given .1) in refused-crossed _ _ _ _ _ _ _ _ (h .is-state) _ (p5 .force .result .state) (h .read) _ _ _ _ _ _ _ (c .before .answer .given .1) refl force-keeps (p5 .force .ensures)
+    let p1 = c .before in
+    let p3 = p1 .before .before in
+    let p4 = p3 .before in
+    let p7 = p4 .before .before .before in
+    let p10 = p7 .before .before .before in
+    let p12 = p10 .before .before in
+    let h = holds-state _ _ (p12 .state-in .ensures) _ (p10 .s .given .1) in (
+      refused-crossed _ _ _ _ _ _ _ _ (h .is-state) _ (p7 .force .result .state) (h .read) _ _ _ _ _ _ _ (p1 .answer .given .1) refl force-keeps (p7 .force .ensures .0),
+      tells-crossed _ _ _ _ _ _ _ refl _ (h .is-state) _ (h .read) _ (p7 .force .ensures .1) _ _ (p4 .fault-reason .ensures) (p3 .fault-entry .ensures),
+    )
 
 put-state-requires : tie.Need-put-state-requires
 put-state-requires c κs =
-    let p9 = c .before .before .before .before .before .before .before .before .before in
-    let p11 = p9 .before .before in
-    let h = holds-state _ _ (p11 .state-in .ensures) _ (p9 .s .given .1) in h .is-seven
+    let p11 = c .before .before .before .before .before .before .before .before .before .before .before in
+    let p13 = p11 .before .before in
+    holds-state _ _ (p13 .state-in .ensures) _ (p11 .s .given .1) .is-seven
 
 returns-3 : tie.Need-returns-3
 returns-3 c =
-    let p4 = c .before .before .before .before in
-    let p11 = p4 .before .before .before .before .before .before .before in
-    let p14 = p11 .before .before .before in
-    let p16 = p14 .before .before in
-    let h = holds-state _ _ (p16 .state-in .ensures) _ (p14 .s .given .1) in crossed _ _ _ _ _ _ _ refl _ _ (h .is-state) _ (p11 .force .result .state) _ _ _ _ _ _ _ _ _ (h .read) (p11 .force .ensures) (c .number-of .ensures) (c .before .value-of .ensures) (p4 .put-state .ensures)
+    let p1 = c .before in
+    let p4 = p1 .before .before .before in
+    let p9 = p4 .before .before .before .before .before in
+    let p10 = p9 .before in
+    let p13 = p10 .before .before .before in
+    let p16 = p13 .before .before .before in
+    let p18 = p16 .before .before in
+    let h = holds-state _ _ (p18 .state-in .ensures) _ (p16 .s .given .1) in (
+      crossed _ _ _ _ _ _ _ refl _ _ (h .is-state) _ (p13 .force .result .state) _ _ _ _ _ _ _ _ _ (h .read) (p13 .force .ensures .0) (c .number-of .ensures) (p1 .value-of .ensures) (p4 .put-state .ensures),
+      tells-crossed _ _ _ _ _ _ _ refl _ (h .is-state) _ (h .read) _ (p13 .force .ensures .1) _ _ (p10 .fault-reason .ensures) (p9 .fault-entry .ensures),
+    )
 
 pub keeper-force-spec : {M : Type 1} → statement M
 keeper-force-spec =
@@ -40,6 +55,8 @@ keeper-force-spec =
     (λ c. search needs)
     (λ c. search needs)
     returns
+    (λ c κs. search needs)
+    (λ c κs. search needs)
     (λ c κs. search needs)
     (λ c. search needs)
     (λ c. search needs)

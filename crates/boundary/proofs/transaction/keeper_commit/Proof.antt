@@ -17,7 +17,7 @@ returns-2 c =
     let p5 = c .before .before .before .before .before in
     let p8 = p5 .before .before .before in
     let p10 = p8 .before .before in
-    let h = holds-state _ _ (p10 .state-in .ensures) _ (p8 .s .given .1) in refused-crossed _ _ _ _ _ _ _ _ (h .is-state) _ (p5 .commit .result .state) (h .read) _ _ _ _ _ _ _ (c .before .answer .given .1) refl commit-keeps (p5 .commit .ensures)
+    let h = holds-state _ _ (p10 .state-in .ensures) _ (p8 .s .given .1) in refused-crossed _ _ _ _ _ _ _ _ (h .is-state) _ (p5 .commit .result .state) (h .read) _ _ _ _ _ _ _ (c .before .answer .given .1) refl commit-keeps (p5 .commit .ensures .0)
 
 put-made-requires : tie.Need-put-made-requires
 put-made-requires c κs =
@@ -25,7 +25,7 @@ put-made-requires c κs =
     let p9 = p6 .before .before .before in
     let p11 = p9 .before .before in
     let h = holds-state _ _ (p11 .state-in .ensures) _ (p9 .s .given .1) in
-    begins _ _ _ _ _ _ Commit commit-makes _ (p6 .commit .result .state) h _ _ _ _ _ _ (p6 .commit .ensures)
+    begins _ _ _ _ _ _ Commit commit-makes _ (p6 .commit .result .state) h _ _ _ _ _ _ (p6 .commit .ensures .0)
 
 returns-3 : tie.Need-returns-3
 returns-3 c =
@@ -33,7 +33,7 @@ returns-3 c =
     let p11 = p4 .before .before .before .before .before .before .before in
     let p14 = p11 .before .before .before in
     let p16 = p14 .before .before in
-    let h = holds-state _ _ (p16 .state-in .ensures) _ (p14 .s .given .1) in crossed _ _ _ _ _ _ _ refl _ _ (h .is-state) _ (p11 .commit .result .state) _ _ _ _ _ _ _ _ _ (h .read) (p11 .commit .ensures) (c .number-of .ensures) (c .before .value-of .ensures) (p4 .put-made .ensures)
+    let h = holds-state _ _ (p16 .state-in .ensures) _ (p14 .s .given .1) in crossed _ _ _ _ _ _ _ refl _ _ (h .is-state) _ (p11 .commit .result .state) _ _ _ _ _ _ _ _ _ (h .read) (p11 .commit .ensures .0) (c .number-of .ensures) (c .before .value-of .ensures) (p4 .put-made .ensures)
 
 pub keeper-commit-spec : {M : Type 1} → statement M
 keeper-commit-spec =

@@ -18,7 +18,7 @@ returns-2 c =
     let p7 = p4 .before .before .before in
     let p9 = p7 .before .before in
     let p11 = p9 .before .before in
-    let h = holds-state _ _ (p11 .state-in .ensures) _ (p9 .s .given .1) in crossed _ _ _ _ _ _ _ refl _ _ (h .is-state) _ (p7 .read .result .state) _ _ _ _ _ _ _ _ _ (h .read) (p7 .read .ensures) (c .number-of .ensures) (c .before .value-of .ensures) (p4 .put-state .ensures)
+    let h = holds-state _ _ (p11 .state-in .ensures) _ (p9 .s .given .1) in crossed _ _ _ _ _ _ _ refl _ _ (h .is-state) _ (p7 .read .result .state) _ _ _ _ _ _ _ _ _ (h .read) (p7 .read .ensures .0) (c .number-of .ensures) (c .before .value-of .ensures) (p4 .put-state .ensures)
 
 pub keeper-read-spec : {M : Type 1} → statement M
 keeper-read-spec =

@@ -17,7 +17,7 @@ put-made-requires c κs =
     let p16 = p10 .before .before .before .before .before .before in
     let p18 = p16 .before .before in
     let h = holds-state _ _ (p18 .state-in .ensures) _ (p16 .s .given .1) in
-    begins _ _ _ _ _ _ (Write _ _) (write-makes _ _) _ (p10 .write .result .state) h _ _ _ _ _ _ (p10 .write .ensures)
+    begins _ _ _ _ _ _ (Write _ _) (write-makes _ _) _ (p10 .write .result .state) h _ _ _ _ _ _ (p10 .write .ensures .0)
 
 returns-2 : tie.Need-returns-2
 returns-2 c =
@@ -25,7 +25,7 @@ returns-2 c =
     let p14 = p3 .before .before .before .before .before .before .before .before .before .before .before in
     let p20 = p14 .before .before .before .before .before .before in
     let p22 = p20 .before .before in
-    let h = holds-state _ _ (p22 .state-in .ensures) _ (p20 .s .given .1) in crossed _ _ _ _ _ _ _ refl _ _ (h .is-state) _ (p14 .write .result .state) _ _ _ _ _ _ _ _ _ (h .read) (p14 .write .ensures) (c .number-of .ensures) refl (p3 .put-made .ensures)
+    let h = holds-state _ _ (p22 .state-in .ensures) _ (p20 .s .given .1) in crossed _ _ _ _ _ _ _ refl _ _ (h .is-state) _ (p14 .write .result .state) _ _ _ _ _ _ _ _ _ (h .read) (p14 .write .ensures .0) (c .number-of .ensures) refl (p3 .put-made .ensures)
 
 pub keeper-write-spec : {M : Type 1} → statement M
 keeper-write-spec =
