@@ -10,10 +10,13 @@ use types.Run.{OneOf}
 use denote.Enum.Declared.{tagOf}
 use lib.ListN.{length, replicate, take, length-replicate}
 use Rattle.scope.specs.Bytes.{pick, numberAt}
+use Rattle.scope.specs.Row.{faultless}
 use Rattle.scope.specs.Keeper.{Keeper, Answer, refused, headOk, noState, inRange, sound, withState}
-use Rattle.scope.specs.Refusals.{RecoveryStart, RecoveryStep, unfit, refusal, tests}
+use Rattle.scope.specs.Refusals.{RecoveryStart, RecoveryStep, unfit, refusal, tests, told}
 use Rattle.scope.specs.Calls.{act, performed}
 use Rattle.scope.proofs.Frames.{onto, frame}
+use Rattle.scope.proofs.Told.{told-nothing}
+use Rattle.row.specs.Row.{faultOf}
 use Rattle.state.specs.Lent.{lentTo, stateless, left}
 use Rattle.state.specs.declared.Numbers.{Numbers}
 use Rattle.state.specs.declared.Phase.{Phase}
@@ -23,7 +26,7 @@ use Rattle.recovery.specs.declared.Step.{Step}
 use Rattle.recovery.specs.declared.Step.the-variants as step
 use Rattle.recovery.proofs.Step.{the-type}
 use Rattle.recovery.proofs.Recovering.{head-fits}
-use Rattle.recovered.specs.Recovered.{isCell, steps, started, recovered, headNumber, Zeroed, Recovers}
+use Rattle.recovered.specs.Recovered.{isCell, steps, started, startTold, recovered, headNumber, Zeroed, Recovers}
 
 -- one step of those that remain
 
@@ -92,6 +95,12 @@ pub start-none : (m current first last waiting : List ℕ) → headOk m ≡ fals
 unfolding act performed refusal tests stateless withState noState
 start-none m current first last waiting e = simp e
 
+none-told : (m current first last waiting : List ℕ) → headOk m ≡ false → faultless ≡ told RecoveryStart (stateless m current first last waiting)
+none-told m current first last waiting e = told-nothing RecoveryStart (stateless m current first last waiting) 1 number-1 (λ z. omega arith) (λ z. omega arith)
+  where
+    number-1 : 1 ≡ refusal RecoveryStart (stateless m current first last waiting)
+    number-1 = unfold refusal tests stateless in simp e
+
 -- N and C of a head in rule
 
 pub head-number : (at : ℕ) (m : List ℕ) (t : Bool) → t ≡ headOk m → t ≡ true → numberAt 4 at m ≡ headNumber at m
@@ -152,10 +161,11 @@ module _ (m current waiting : List ℕ) (d : Zeroed m current waiting) where
     abbrev As-started : Type 0
     As-started =
         (act RecoveryStart (stateless m current first last waiting) .answer ≡ started m .answer)
-        × ((last-keeper .state ≡ recovered m .state) × (last-keeper .medium ≡ recovered m .medium))
+        × ((told RecoveryStart (stateless m current first last waiting) ≡ startTold m)
+        × ((last-keeper .state ≡ recovered m .state) × (last-keeper .medium ≡ recovered m .medium)))
 
     in-rule : headOk m ≡ true → As-started
-    unfolding started recovered
+    unfolding started startTold recovered
     in-rule t =
         let n : headNumber 0 m ≡ numberAt 4 0 m = sym (head-number 0 m true (sym t) refl) in
         let c : headNumber 4 m ≡ numberAt 4 4 m = sym (head-number 4 m true (sym t) refl) in
@@ -166,17 +176,19 @@ module _ (m current waiting : List ℕ) (d : Zeroed m current waiting) where
         let qf′ = qf ∙ ap zeros l in
         let ql′ = ql ∙ ap zeros l in
         let e : act RecoveryStart (stateless m current first last waiting) ≡ started m = λ i. act RecoveryStart (stateless m (qc i) (qf′ i) (ql′ i) (qw i)) in
-        (ap (λ o. o .answer) e, ((λ i. steps (l i + 1) (e i .keeper) .state), (λ i. steps (l i + 1) (e i .keeper) .medium)))
+        let w : told RecoveryStart (stateless m current first last waiting) ≡ startTold m = λ i. told RecoveryStart (stateless m (qc i) (qf′ i) (ql′ i) (qw i)) in
+        (ap (λ o. o .answer) e, (w, ((λ i. steps (l i + 1) (e i .keeper) .state), (λ i. steps (l i + 1) (e i .keeper) .medium))))
 
     out-of-rule : headOk m ≡ false → As-started
-    unfolding started recovered stateless
+    unfolding started startTold recovered stateless
     out-of-rule f =
         let s = start-none m current first last waiting f in
         let n = numberAt 4 0 m in
         let u = start-none m (replicate n 0) (replicate n 0) (replicate n 0) (replicate (32 * numberAt 4 4 m) 0) f in
+        let w = sym (none-told m current first last waiting f) ∙ none-told m (replicate n 0) (replicate n 0) (replicate n 0) (replicate (32 * numberAt 4 4 m) 0) f in
         let p = ap (λ o. steps (length current + 1) (o .keeper)) s ∙ steps-none (length current + 1) _ refl in
         let q = ap (λ o. steps (n + 1) (o .keeper)) u ∙ steps-none (n + 1) _ refl in
-        (ap (λ o. o .answer) s ∙ sym (ap (λ o. o .answer) u), (ap (λ k. k .state) p ∙ sym (ap (λ k. k .state) q), ap (λ k. k .medium) p ∙ sym (ap (λ k. k .medium) q)))
+        (ap (λ o. o .answer) s ∙ sym (ap (λ o. o .answer) u), (w, (ap (λ k. k .state) p ∙ sym (ap (λ k. k .state) q), ap (λ k. k .medium) p ∙ sym (ap (λ k. k .medium) q))))
 
     as-started : As-started
     as-started = go (headOk m) refl
@@ -186,17 +198,19 @@ module _ (m current waiting : List ℕ) (d : Zeroed m current waiting) where
         go false e = out-of-rule e
 
     pub recovers : (s o : Started) (current′ first′ last′ m′ : List ℕ)
-        → left (numbered (s .number)) (s .numbers) (s .phase) m current′ first′ last′ waiting ≡ act RecoveryStart (stateless m current first last waiting)
-        → o .number ≡ s .number
+        → (left (numbered (s .number)) (s .numbers) (s .phase) m current′ first′ last′ waiting ≡ act RecoveryStart (stateless m current first last waiting))
+        × (faultOf (s .fault) ≡ told RecoveryStart (stateless m current first last waiting))
+        → (o .number ≡ s .number) × (o .fault ≡ s .fault)
         → lentTo (o .numbers) (o .phase) m′ current′ [] [] [] ≡ steps (length current + 1) (lentTo (s .numbers) (s .phase) m current′ [] [] [])
         → Recovers m o m′
     unfolding lentTo left
     recovers s o current′ first′ last′ m′ e q r =
         let g = lentTo (s .numbers) (s .phase) m current′ [] [] [] in
         let f = steps-frame g (length current + 1) (lentTo (s .numbers) (s .phase) m current′ first′ last′ waiting) in
-        let ended = r ∙ f ∙ ap (λ x. onto RecoveryStep g (steps (length current + 1) (x .keeper))) e in
+        let ended = r ∙ f ∙ ap (λ x. onto RecoveryStep g (steps (length current + 1) (x .keeper))) (e .0) in
         record {
-          answer = ap numbered q ∙ ap (λ x. x .answer) e ∙ as-started .0;
-          state = ap (λ k. k .state) ended ∙ as-started .1 .0;
-          medium = ap (λ k. k .medium) ended ∙ as-started .1 .1;
+          answer = ap numbered (q .0) ∙ ap (λ x. x .answer) (e .0) ∙ as-started .0;
+          fault = ap faultOf (q .1) ∙ e .1 ∙ as-started .1 .0;
+          state = ap (λ k. k .state) ended ∙ as-started .1 .1 .0;
+          medium = ap (λ k. k .medium) ended ∙ as-started .1 .1 .1;
         }

@@ -18,7 +18,7 @@ use Rattle.recovery.specs.Answers.{numbered}
 use Rattle.recovery.specs.declared.Started.{Started}
 use Rattle.recovery.proofs.Recovering.{Head, head-fits}
 use Rattle.recovered.proofs.Settled.{start-none}
-use Rattle.recovered.specs.Recovered.{isCell, steps, started, recovered, Recovers}
+use Rattle.recovered.specs.Recovered.{isCell, steps, inZeros, started, recovered, Recovers}
 
 -- cells and slots of a state, which no step changes
 
@@ -55,17 +55,13 @@ module _ (m : List ℕ) where
   abbrev C : ℕ
   C = numberAt 4 4 m
 
-  -- the keeper that a start of the definition is handed
-  abbrev zeroed : Keeper
-  zeroed = stateless m (replicate N 0) (replicate N 0) (replicate N 0) (replicate (32 * C) 0)
-
   pub started-cases : (P : Answer → ℕ → ℕ → Type 0) → P (done 0) N C → ((x a b : ℕ) → P (refused x) a b)
       → P (started m .answer) (started m .keeper .state .cells) (started m .keeper .state .slots)
   unfolding started act
-  started-cases P accepted else = go (refusal RecoveryStart zeroed)
+  started-cases P accepted else = go (refusal RecoveryStart (inZeros m))
     where
       begun : ℕ → Outcome
-      begun x = unless x (performed RecoveryStart zeroed) (unchanged RecoveryStart zeroed)
+      begun x = unless x (performed RecoveryStart (inZeros m)) (unchanged RecoveryStart (inZeros m))
 
       go : (x : ℕ) → P (begun x .answer) (begun x .keeper .state .cells) (begun x .keeper .state .slots)
       go zero = unfold performed stateless in accepted

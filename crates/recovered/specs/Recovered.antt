@@ -6,8 +6,10 @@ use mathlib.Core.List.{List}
 use lib.ListN.{replicate}
 use Rattle.scope.specs.Bytes.{pick, numberAt}
 use Rattle.scope.specs.Keeper.{Keeper, Answer, Outcome, done, refused, cell, head, clean, stored, part, headOk}
-use Rattle.scope.specs.Refusals.{RecoveryStart, RecoveryStep}
+use Rattle.scope.specs.Row.{Fault}
+use Rattle.scope.specs.Refusals.{RecoveryStart, RecoveryStep, told}
 use Rattle.scope.specs.Calls.{act}
+use Rattle.row.specs.Row.{faultOf}
 use Rattle.state.specs.State.{stateOf}
 use Rattle.state.specs.Lent.{stateless}
 use Rattle.recovery.specs.Answers.{numbered}
@@ -28,11 +30,19 @@ unfoldable pub steps : ℕ → Keeper → Keeper
 steps zero k = k
 steps (suc left) k = pick (isCell (act RecoveryStep k .answer)) (steps left (act RecoveryStep k .keeper)) (act RecoveryStep k .keeper)
 
--- recovery start, with workspaces of zeros as the head says
-unfoldable pub started : List ℕ → Outcome
-started m =
+-- a medium without a state, with workspaces of zeros as the head says
+abbrev pub inZeros : List ℕ → Keeper
+inZeros m =
     let n = numberAt 4 0 m in
-    act RecoveryStart (stateless m (replicate n 0) (replicate n 0) (replicate n 0) (replicate (32 * numberAt 4 4 m) 0))
+    stateless m (replicate n 0) (replicate n 0) (replicate n 0) (replicate (32 * numberAt 4 4 m) 0)
+
+-- recovery start there
+unfoldable pub started : List ℕ → Outcome
+started m = act RecoveryStart (inZeros m)
+
+-- what that start tells of a row
+unfoldable pub startTold : List ℕ → Fault
+startTold m = told RecoveryStart (inZeros m)
 
 -- N cells differ at most, and one step more stores the head or nothing
 unfoldable pub recovered : List ℕ → Keeper
@@ -47,8 +57,9 @@ pub record Zeroed (m current waiting : List ℕ) : Type 0 where
   pub current-zero : current ≡ replicate (headNumber 0 m) 0
   pub waiting-zero : waiting ≡ replicate (32 * headNumber 4 m) 0
 
--- what a recovery from a medium answers and leaves: the start's answer, with the state and the medium after the steps
+-- what a recovery from a medium answers and leaves: the start's answer and what it tells, with the state and the medium after the steps
 pub record Recovers (m : List ℕ) (o : Started) (m′ : List ℕ) : Type 0 where
   pub answer : numbered (o .number) ≡ started m .answer
+  pub fault : faultOf (o .fault) ≡ startTold m
   pub state : stateOf (o .numbers) (o .phase) ≡ recovered m .state
   pub medium : m′ ≡ recovered m .medium

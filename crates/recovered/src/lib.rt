@@ -13,10 +13,11 @@ use recovery::recovery_step;
 
 // Recovery steps while a cell is stored, at most so many.
 fn settle(mut left: usize, mut state: Started, medium: &mut [u8], current: &[u64]) -> Started
-    ensures { λ r. ⌜ r .number ≡ state .number ⌝ }
+    ensures { λ r. ⌜ (r .number ≡ state .number) × (r .fault ≡ state .fault) ⌝ }
     ensures { λ r. ⌜ lentTo (r .numbers) (r .phase) (now (medium .exit)) (now (current .entry)) [] [] [] ≡ steps left (lentTo (state .numbers) (state .phase) (now (medium .entry)) (now (current .entry)) [] [] []) ⌝ }
 {
     let number = state.number;
+    let fault = state.fault;
     while 0 < left {
         let numbers = state.numbers;
         let phase = state.phase;
@@ -26,6 +27,7 @@ fn settle(mut left: usize, mut state: Started, medium: &mut [u8], current: &[u64
         let phase = step.phase;
         state = Started {
             number,
+            fault,
             numbers,
             phase,
         };
@@ -67,7 +69,7 @@ pub fn head_number(medium: &[u8], at: usize) -> usize
     index(number::get4(medium, at))
 }
 
-// Recovers a medium where it stands, and answers the start's number with the state after the steps. Goes over the table once for each cell
+// Recovers a medium where it stands, and answers the start's number, and what it tells of a row, with the state after the steps. Goes over the table once for each cell
 // that is stored.
 pub fn recover(medium: &mut [u8]) -> Started
     ensures { λ r. ⌜ Recovers (now (medium .entry)) r (now (medium .exit)) ⌝ }

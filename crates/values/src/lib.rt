@@ -6,18 +6,23 @@ ghost use lib.ListN.{replicate};
 ghost use Rattle.scope.specs.Bytes.{numberAt};
 ghost use Rattle.scope.specs.Keeper.{headOk};
 ghost use Rattle.scope.specs.Recovery.{journal};
-ghost use Rattle.replay.specs.Replay.{lastOf, upto};
+ghost use Rattle.replay.specs.Replay.{lastOf};
 ghost use Rattle.recovered.specs.Recovered.{headNumber};
-ghost use Rattle.values.specs.Values.{Values};
+ghost use Rattle.values.specs.Values.{Values, upto};
 use medium::head::head_ok;
 use medium::table::load;
 use replay::entries::replay;
-use replay::scan::Counted;
 use walker::Seen;
 use walker::after;
 
+// How a walk ends: after its last entry, or at a row that does not read.
+enum Ended {
+    Upto(u32),
+    Malformed,
+}
+
 // The last entry that a walk from h meets, or that it meets a row that does not read.
-fn last_met(medium: &[u8], h: u32) -> Counted
+fn last_met(medium: &[u8], h: u32) -> Ended
     requires { ⌜ (h ≡ numberAt 4 8 (now medium)) × (headOk (now medium) ≡ true) ⌝ }
     ensures { λ r. ⌜ upto r ≡ lastOf h (journal (numberAt 4 0 (now (medium .entry))) (numberAt 4 4 (now (medium .entry))) h (now (medium .entry))) ⌝ }
 {
@@ -29,10 +34,10 @@ fn last_met(medium: &[u8], h: u32) -> Counted
                 n = number;
             }
             Seen::Malformed => {
-                return Counted::Malformed;
+                return Ended::Malformed;
             }
             Seen::End => {
-                return Counted::Upto(n);
+                return Ended::Upto(n);
             }
         }
     }
@@ -51,8 +56,8 @@ pub fn values(medium: &[u8], current: &mut [u64]) -> u32
     let cells = number::get4(medium, 0);
     let slots = number::get4(medium, 4);
     let h = number::get4(medium, 8);
-    let counted = last_met(medium, h);
-    let Counted::Upto(e) = counted else {
+    let ended = last_met(medium, h);
+    let Ended::Upto(e) = ended else {
         return 2;
     };
     load(medium, slots, current);

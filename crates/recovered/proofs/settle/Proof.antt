@@ -12,16 +12,16 @@ use Rattle.recovered.proofs.settle.Statement.{statement}
 use Rattle.recovered.proofs.settle.Tie as tie
 
 abbrev Inv-loop : tie.InvT-loop
-Inv-loop left₀ state₀ medium₀ current number left state medium =
+Inv-loop left₀ state₀ medium₀ current number fault left state medium =
     (length medium ≡ length medium₀)
-    × (((state .number ≡ state₀ .number) × (number ≡ state₀ .number))
+    × ((((state .number ≡ state₀ .number) × (state .fault ≡ state₀ .fault)) × ((number ≡ state₀ .number) × (fault ≡ state₀ .fault)))
     × (steps left₀ (lentTo (state₀ .numbers) (state₀ .phase) medium₀ current [] [] []) ≡ steps left (lentTo (state .numbers) (state .phase) medium current [] [] [])))
 
 abbrev μ-loop : tie.MeasureT-loop
-μ-loop left₀ state₀ medium₀ current number left state medium = left
+μ-loop left₀ state₀ medium₀ current number fault left state medium = left
 
 loop-holds : tie.Need-loop-holds Inv-loop μ-loop
-loop-holds c = (refl, ((refl, refl), refl))
+loop-holds c = (refl, (((refl, refl), (refl, refl)), refl))
 
 recovery-step-requires : tie.Need-recovery-step-requires Inv-loop μ-loop
 recovery-step-requires c κs = tt

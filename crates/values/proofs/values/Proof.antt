@@ -35,7 +35,7 @@ replay-requires : tie.Need-replay-requires
 replay-requires c κs =
     let h = head-fits _ _ (c .before .before .before .before .before .before .before .before .before .before .before .before .before .head-ok .ensures) (c .before .before .before .before .before .before .before .before .before .before .before .before .if1 .taken) in
     let l = values-cells _ _ (c .before .before .before .before .before .before .before .before .before .before .before .before .before .head-ok .ensures) (c .before .before .before .before .before .before .before .before .before .before .before .before .if1 .taken) _ (c .before .before .before .before .before .before .before .before .before .before .before .before .before .before .before .before .pre) in
-    let u = values-upto _ _ (c .before .before .before .before .before .before .before .before .before .before .before .before .before .head-ok .ensures) (c .before .before .before .before .before .before .before .before .before .before .before .before .if1 .taken) _ _ _ (c .before .before .before .before .before .before .before .before .before .before .before .get4 .ensures) (c .before .before .before .before .before .before .before .before .before .before .get42 .ensures) (c .before .before .before .before .before .before .before .before .before .get43 .ensures) _ (c .before .before .before .before .before .before .before .before .last-met .ensures) _ (c .before .before .before .before .before .before .counted .given .1) (omega arith) in
+    let u = values-upto _ _ (c .before .before .before .before .before .before .before .before .before .before .before .before .before .head-ok .ensures) (c .before .before .before .before .before .before .before .before .before .before .before .before .if1 .taken) _ _ _ (c .before .before .before .before .before .before .before .before .before .before .before .get4 .ensures) (c .before .before .before .before .before .before .before .before .before .before .get42 .ensures) (c .before .before .before .before .before .before .before .before .before .get43 .ensures) _ (c .before .before .before .before .before .before .before .before .last-met .ensures) _ (c .before .before .before .before .before .before .ended .given .1) (omega arith) in
     (record { some-slots = omega (arith, h .slots≥, c .before .before .before .before .before .before .before .before .before .before .get42 .ensures); few-slots = omega (arith, h .slots≤, c .before .before .before .before .before .before .before .before .before .before .get42 .ensures); room = omega (arith, h .long, c .before .before .before .before .before .before .before .before .before .before .get42 .ensures); numbered = omega arith }, (omega (arith, l, c .before .before .before .load .kept, c .before .before .before .before .before .before .before .before .before .before .before .get4 .ensures), u))
 
 returns-3 : tie.Need-returns-3
@@ -48,7 +48,7 @@ returns-3 c =
     let p20 = p16 .before .before .before .before in
     let h = p16 .before .head-ok .ensures in
     let l = values-cells _ _ h (p16 .if1 .taken) _ (p20 .pre) in
-    absurd (values-read _ _ h (p16 .if1 .taken) _ _ _ (p12 .before .before .before .get4 .ensures) (p12 .before .before .get42 .ensures) (p12 .before .get43 .ensures) _ (p12 .last-met .ensures) _ (p10 .counted .given .1) _ l _ _ _ (p7 .load .ensures) (p3 .replay .ensures) (c .if2 .left))
+    absurd (values-read _ _ h (p16 .if1 .taken) _ _ _ (p12 .before .before .before .get4 .ensures) (p12 .before .before .get42 .ensures) (p12 .before .get43 .ensures) _ (p12 .last-met .ensures) _ (p10 .ended .given .1) _ l _ _ _ (p7 .load .ensures) (p3 .replay .ensures) (c .if2 .left))
 
 returns-4 : tie.Need-returns-4
 returns-4 c =
@@ -60,7 +60,7 @@ returns-4 c =
     let p20 = p16 .before .before .before .before in
     let h = p16 .before .head-ok .ensures in
     let l = values-cells _ _ h (p16 .if1 .taken) _ (p20 .pre) in
-    values-done _ _ h (p16 .if1 .taken) _ _ _ (p12 .before .before .before .get4 .ensures) (p12 .before .before .get42 .ensures) (p12 .before .get43 .ensures) _ (p12 .last-met .ensures) _ (p10 .counted .given .1) _ l _ _ _ (p7 .load .ensures) (p3 .replay .ensures) (c .if2 .taken)
+    values-done _ _ h (p16 .if1 .taken) _ _ _ (p12 .before .before .before .get4 .ensures) (p12 .before .before .get42 .ensures) (p12 .before .get43 .ensures) _ (p12 .last-met .ensures) _ (p10 .ended .given .1) _ l _ _ _ (p7 .load .ensures) (p3 .replay .ensures) (c .if2 .taken)
 
 pub values-spec : {M : Type 1} → statement M
 values-spec =

@@ -15,13 +15,13 @@ returns-2 : tie.Need-returns-2
 returns-2 c =
     let p = ap (λ x. 32 + x) (c .before .before .before .before .before .row-at .ensures .0) in
     next-malformed _ _ _ _ _ (number-from _ _ _ _ p _ (c .before .before .before .before .get4 .ensures)) (c .before .before .before .if1 .left)
-    (is-nothing _ _ (read-from _ _ _ _ p _ _ (c .before .before .entry-from .ensures)) (c .enum-told .given .1))
+    (is-nothing _ _ (read-from _ _ _ _ p _ _ (c .before .before .entry-from .ensures .0)) _ (c .enum-told .given .1))
 
 returns-3 : tie.Need-returns-3
 returns-3 c =
     let p = ap (λ x. 32 + x) (c .before .before .before .before .before .before .row-at .ensures .0) in
     next-holds _ _ _ _ _ (number-from _ _ _ _ p _ (c .before .before .before .before .before .get4 .ensures)) (c .before .before .before .before .if1 .left) _
-    (is-some _ _ (read-from _ _ _ _ p _ _ (c .before .before .before .entry-from .ensures)) _ (c .before .what .given .1))
+    (is-some _ _ (read-from _ _ _ _ p _ _ (c .before .before .before .entry-from .ensures .0)) _ (c .before .what .given .1))
 
 pub row-after-spec : {M : Type 1} → statement M
 row-after-spec =
