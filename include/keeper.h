@@ -24,8 +24,8 @@
  *
  * What a call answers
  *   0 when it is done, else the number of the refusal, below. The order in which a call tests them stands at the call. A refused call
- *   changes nothing that it is lent but the value, which becomes 0, and the reason and entry (most write the state's own numbers back into it); recovery start
- *   alone writes seven zeros, which is no sound state.
+ *   changes nothing that it is lent but the value, which becomes 0, and the reason and entry, below (most write the state's own numbers
+ *   back into it); recovery start alone writes seven zeros, which is no sound state.
  *     1 the state is not sound, or a length or the head is out of rule     7 a row isn't the entry that the call needs
  *     2 a row with the expected number doesn't read as an entry            8 the cell's last change isn't stored in the journal
  *     3 no transaction is open                                             9 the journal can't be cut there
