@@ -69,8 +69,8 @@ pub fn head_number(medium: &[u8], at: usize) -> usize
     index(number::get4(medium, at))
 }
 
-// Recovers a medium where it stands, and answers the start's number, and what it tells of a row, with the state after the steps. Goes
-// over the table once for each cell that is stored.
+// Recovers a medium where it stands, and answers the start's number and what it tells of a row, with the state after the steps. Goes over the
+// table once for each cell that is stored.
 pub fn recover(medium: &mut [u8]) -> Started
     ensures { λ r. ⌜ Recovers (now (medium .entry)) r (now (medium .exit)) ⌝ }
 {
