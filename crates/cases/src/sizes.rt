@@ -74,9 +74,8 @@ fn tried_cell(
     let begun = idle.begin(current, first, last, waiting);
     let run = begun.state;
     let written = run.write(cell, 7, current, first, last, waiting);
-    let answer = written.answer;
     key(b"case=12 cells=1024 write cell=", cell as u64);
-    told(b"", answer);
+    told(b"", written);
 }
 
 fn fresh(

@@ -5,8 +5,10 @@ use lib.Dec.{eqb, ltb}
 use lib.ListN.{take, drop}
 use Rattle.scope.specs.Bytes.{pick, put}
 use Rattle.scope.specs.Keeper.{Keeper, Answer, done, refused, cell, head, clean, stored, part, refusalOf, valueOf, rowAt, cellAt}
-use Rattle.scope.specs.Refusals.{Call, Format, RecoveryStart, RecoveryStep, Begin, Commit, Abort, Force, TableView, Read, WriteBack, Cut, Look, Write}
+use Rattle.scope.specs.Refusals.{Call, Format, RecoveryStart, RecoveryStep, Begin, Commit, Abort, Force, TableView, Read, WriteBack, Cut, Look, Write, told}
 use Rattle.scope.specs.Calls.{act}
+use Rattle.row.specs.Row.{faultOf}
+use Rattle.row.specs.declared.Fault.{Fault}
 use Rattle.keeper.specs.declared.State.{State}
 use Rattle.console.specs.declared.Asked.{Asked}
 use Rattle.console.specs.declared.Did.{Did}
@@ -97,14 +99,16 @@ placeOf (Cut p) slots a = cutPlace a
 placeOf (Look n) slots a = nowhere
 placeOf (Write c v) slots a = nowhere
 
-abbrev pub didOf : Answer → State → Place → Did
-didOf a s p = record { state = s; refused = refusalOf a; value = valueOf a; said = saidOf a; at = p .at; size = p .size }
+abbrev pub didOf : Answer → Fault → State → Place → Did
+didOf a t s p = record { state = s; refused = refusalOf a; fault = t; value = valueOf a; said = saidOf a; at = p .at; size = p .size }
 
 -- THE CALL, MADE on what was lent before it
 pub record Made (a : Call) (before : Keeper) (d : Did) (after : Keeper) : Type 0 where
   -- the state and every byte of what was lent are as the papers' call leaves them
   pub keeper : after ≡ act a before .keeper
   -- the answer is its answer, and the place is that of its one store
-  pub did : d ≡ didOf (act a before .answer) (d .state) (placeOf a (before .state .slots) (act a before .answer))
+  pub did : d ≡ didOf (act a before .answer) (d .fault) (d .state) (placeOf a (before .state .slots) (act a before .answer))
+  -- beside 2 and 7 it tells what is wrong with the lowest bad row
+  pub tells : faultOf (d .fault) ≡ told a before
   -- bringing the bytes of that place to the medium before the call gives the medium after it
   pub brought : after .medium ≡ put (before .medium) (d .at) (take (d .size) (drop (d .at) (after .medium)))

@@ -14,6 +14,7 @@ use keeper::Stepped;
 use keeper::WrittenBack;
 use medium::layout::cell_at;
 use recovery::Step;
+use row::Fault;
 
 pub const BEGIN: u32 = 0;
 
@@ -54,11 +55,12 @@ pub const CELL: u32 = 3;
 
 pub const HEAD: u32 = 4;
 
-// What a call did: the state that it handed back, the refusal's number or 0, what it answered, and where on the medium its store stands,
-// `size` bytes from `at` on; with size 0 it made none.
+// What a call did: the state that it handed back, the refusal's number or 0 and what it tells of rows, what it answered, and where on the
+// medium its store stands, `size` bytes from `at` on; with size 0 it made none.
 pub struct Did {
     pub state: State,
     pub refused: u32,
+    pub fault: Fault,
     pub value: u64,
     pub said: u32,
     pub at: usize,
@@ -74,12 +76,13 @@ fn row_place(slots: u32, n: u64) -> usize
     32 + 32 * row as usize
 }
 
-fn refusal(state: State, number: u32) -> Did
-    ensures { λ r. ⌜ r ≡ didOf (refused number) state nowhere ⌝ }
+fn refusal(state: State, number: u32, fault: Fault) -> Did
+    ensures { λ r. ⌜ r ≡ didOf (refused number) fault state nowhere ⌝ }
 {
     Did {
         state,
         refused: number,
+        fault,
         value: 0,
         said: PLAIN,
         at: 0,
@@ -87,12 +90,13 @@ fn refusal(state: State, number: u32) -> Did
     }
 }
 
-fn answer(state: State, value: u64, said: u32, at: usize, size: usize) -> Did
-    ensures { λ r. ⌜ r ≡ record { state = state; refused = 0; value = value; said = said; at = at; size = size } ⌝ }
+fn answer(state: State, fault: Fault, value: u64, said: u32, at: usize, size: usize) -> Did
+    ensures { λ r. ⌜ r ≡ record { state = state; refused = 0; fault = fault; value = value; said = said; at = at; size = size } ⌝ }
 {
     Did {
         state,
         refused: 0,
+        fault,
         value,
         said,
         at,
@@ -102,70 +106,80 @@ fn answer(state: State, value: u64, said: u32, at: usize, size: usize) -> Did
 
 // A call that stores nothing.
 fn plain(out: Outcome) -> Did
-    ensures { λ r. ⌜ r ≡ didOf (answered (out .answer)) (out .state) nowhere ⌝ }
+    ensures { λ r. ⌜ r ≡ didOf (answered (out .answer)) (out .fault) (out .state) nowhere ⌝ }
 {
     let state = out.state;
+    let fault = out.fault;
     let said = out.answer;
     match said {
-        Answer::Done(value) => answer(state, value, PLAIN, 0, 0),
-        Answer::Refused(number) => refusal(state, number),
+        Answer::Done(value) => answer(state, fault, value, PLAIN, 0, 0),
+        Answer::Refused(number) => refusal(state, number, fault),
     }
 }
 
 // Force: the row of the entry that it answers.
 fn forced(out: Outcome, slots: u32) -> Did
     requires { ⌜ (0 < valueOf (answered (out .answer)) → 0 < slots) ⌝ }
-    ensures { λ r. ⌜ r ≡ didOf (answered (out .answer)) (out .state) (forcePlace slots (answered (out .answer))) ⌝ }
+    ensures { λ r. ⌜ r ≡ didOf (answered (out .answer)) (out .fault) (out .state) (forcePlace slots (answered (out .answer))) ⌝ }
 {
     let state = out.state;
+    let fault = out.fault;
     let said = out.answer;
     match said {
         Answer::Done(n) => {
             if n == 0 {
-                return answer(state, 0, PLAIN, 0, 0);
+                return answer(state, fault, 0, PLAIN, 0, 0);
             }
-            answer(state, n, PLAIN, row_place(slots, n), 32)
+            answer(state, fault, n, PLAIN, row_place(slots, n), 32)
         }
-        Answer::Refused(number) => refusal(state, number),
+        Answer::Refused(number) => refusal(state, number, fault),
     }
 }
 
 // Cut: the head.
 fn headed(out: Outcome) -> Did
-    ensures { λ r. ⌜ r ≡ didOf (answered (out .answer)) (out .state) (cutPlace (answered (out .answer))) ⌝ }
+    ensures { λ r. ⌜ r ≡ didOf (answered (out .answer)) (out .fault) (out .state) (cutPlace (answered (out .answer))) ⌝ }
 {
     let state = out.state;
+    let fault = out.fault;
     let said = out.answer;
     match said {
-        Answer::Done(value) => answer(state, value, PLAIN, 0, 32),
-        Answer::Refused(number) => refusal(state, number),
+        Answer::Done(value) => answer(state, fault, value, PLAIN, 0, 32),
+        Answer::Refused(number) => refusal(state, number, fault),
     }
 }
 
 // Write-back: the cell.
 fn backed(out: WrittenBack, slots: u32, cell: u32) -> Did
-    ensures { λ r. ⌜ r ≡ didOf (writtenBack (out .answer)) (out .state) (backPlace slots cell (writtenBack (out .answer))) ⌝ }
+    ensures { λ r. ⌜ r ≡ didOf (writtenBack (out .answer)) Fault.None (out .state) (backPlace slots cell (writtenBack (out .answer))) ⌝ }
 {
     let state = out.state;
     let said = out.answer;
     match said {
-        Back::Stored => answer(state, 0, STORED, cell_at(slots, cell), 8),
-        Back::Clean => answer(state, 0, CLEAN, 0, 0),
-        Back::Refused(number) => refusal(state, number),
+        Back::Stored => answer(state, Fault::None, 0, STORED, cell_at(slots, cell), 8),
+        Back::Clean => answer(state, Fault::None, 0, CLEAN, 0, 0),
+        Back::Refused(number) => refusal(state, number, Fault::None),
     }
 }
 
 // Recovery step: the cell or the head.
 fn walked(out: Stepped, slots: u32) -> Did
-    ensures { λ r. ⌜ r ≡ didOf (stepped (out .answer)) (out .state) (stepPlace slots (stepped (out .answer))) ⌝ }
+    ensures { λ r. ⌜ r ≡ didOf (stepped (out .answer)) Fault.None (out .state) (stepPlace slots (stepped (out .answer))) ⌝ }
 {
     let state = out.state;
     let said = out.answer;
     match said {
-        Step::Cell(cell) => answer(state, cell as u64, CELL, cell_at(slots, cell), 8),
-        Step::Head => answer(state, 0, HEAD, 0, 32),
-        Step::Clean => answer(state, 0, CLEAN, 0, 0),
-        Step::Refused(number) => refusal(state, number),
+        Step::Cell(cell) => answer(
+            state,
+            Fault::None,
+            cell as u64,
+            CELL,
+            cell_at(slots, cell),
+            8,
+        ),
+        Step::Head => answer(state, Fault::None, 0, HEAD, 0, 32),
+        Step::Clean => answer(state, Fault::None, 0, CLEAN, 0, 0),
+        Step::Refused(number) => refusal(state, number, Fault::None),
     }
 }
 

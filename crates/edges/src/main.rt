@@ -87,6 +87,31 @@ fn seven() {
     abort(b"edge=7 abort kind=1", e);
 }
 
+// 7: of two damaged rows the lower is named, and by force the one that it would store.
+fn seven_lowest() {
+    let run = open(b"edge=7 begin");
+    let a = write(b"edge=7 write", run, 0);
+    let b = write(b"edge=7 write", a, 1);
+    let upper = poke_row(b, 40, 2);
+    let c = abort(b"edge=7 abort entry 2 cell=2", upper);
+    let d = force(b"edge=7 force entry 1", c);
+    let e = force(b"edge=7 force entry 2 cell=2", d);
+    let both = poke_row(e, 12, 1);
+    abort(b"edge=7 abort entry 1 filler=1", both);
+}
+
+// 7: an end among the open rows.
+fn seven_end() {
+    let run = open(b"edge=7 begin");
+    let a = write(b"edge=7 write", run, 0);
+    let left = poke_row(a, 4, 2);
+    let b = abort(b"edge=7 abort kind=2 new=7", left);
+    let bare = poke_row(b, 24, 0);
+    let c = abort(b"edge=7 abort kind=2 new=0", bare);
+    let d = begin(b"edge=7 begin in run kind=2 new=0", c);
+    force(b"edge=7 force kind=2 new=0", d);
+}
+
 // Cell 0 written, committed and both entries stored, not written back.
 fn stored(what: &[u8]) -> Desk {
     let run = open(what);
@@ -174,6 +199,8 @@ fn low() {
 
 fn high() {
     seven();
+    seven_lowest();
+    seven_end();
     seven_cut();
     eight();
     nine();

@@ -2,6 +2,7 @@
 // person at a keyboard gets a prompt and hints besides; a script gets neither.
 use libc::STDIN_FILENO;
 use libc::STDOUT_FILENO;
+use row::Fault;
 
 // Why a call was refused with 1.
 pub const EMPTY: u32 = 0;
@@ -58,10 +59,6 @@ pub fn sizes() {
 }
 
 fn meaning_low(n: u32) {
-    if n == 2 {
-        say(b"# a journal row with the expected number is no entry\n");
-        return;
-    }
     if n == 3 {
         say(b"# no transaction is open: begin first\n");
         return;
@@ -76,10 +73,6 @@ fn meaning_middle(n: u32) {
     }
     if n == 6 {
         say(b"# the entry numbers are used up\n");
-        return;
-    }
-    if n == 7 {
-        say(b"# a row is not the entry that it should be\n");
         return;
     }
     say(b"# the cell's last entry is not stored yet: force first\n");
@@ -99,20 +92,28 @@ fn meaning_high(n: u32) {
     say(b"# no such entry in the journal\n");
 }
 
-// A refusal other than 1, in words and by its number.
-pub fn refused(n: u32) {
+fn meaning(n: u32) {
     if n < 5 {
         meaning_low(n);
-        pair(b"refused=", n as u64);
         return;
     }
     if n < 9 {
         meaning_middle(n);
-        pair(b"refused=", n as u64);
         return;
     }
     meaning_high(n);
-    pair(b"refused=", n as u64);
+}
+
+// A refusal other than 1, in words and by its number; the words of 2 and 7 are what is wrong with the row.
+pub fn refused(n: u32, fault: Fault) {
+    let Fault::At { reason, entry } = fault else {
+        meaning(n);
+        pair(b"refused=", n as u64);
+        return;
+    };
+    say(b"# ");
+    faults::print(entry, reason);
+    pair(b"\nrefused=", n as u64);
 }
 
 // A cell's value, in the listing's form.

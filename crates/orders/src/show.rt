@@ -2,6 +2,7 @@
 use crate::say;
 use keeper::State;
 use libc::STDOUT_FILENO;
+use row::Fault;
 
 // A number of the head, for sizes; 0 of a medium without one.
 pub fn head_number(medium: &[u8], at: usize) -> usize {
@@ -61,12 +62,12 @@ pub fn cause(medium: &[u8], size: usize) -> u32 {
 }
 
 // A refusal of a call on this medium.
-pub fn refused(n: u32, medium: &[u8]) {
+pub fn refused(n: u32, fault: Fault, medium: &[u8]) {
     if n == 1 {
         say::unfit(cause_of(medium));
         return;
     }
-    say::refused(n);
+    say::refused(n, fault);
 }
 
 // The table as it stands on the medium, in the listing's form.
@@ -101,7 +102,7 @@ fn hex(part: &[u8]) {
 fn look_at<'a>(state: State, n: u32, medium: &'a [u8], waiting: &'a [u8]) {
     let no = state.look_number(n, medium, waiting);
     if no != 0 {
-        refused(no, medium);
+        refused(no, Fault::None, medium);
         return;
     }
     say::say(b"entry=");

@@ -51,7 +51,8 @@ fn finish(session: Session, asked: Asked, did: Did, medium: &[u8]) -> Told {
         size: session.size,
     };
     if did.refused != 0 {
-        show::refused(did.refused, medium);
+        let fault = did.fault;
+        show::refused(did.refused, fault, medium);
         return Told {
             session: next,
             on: true,
@@ -173,7 +174,8 @@ fn stored(session: Session, rows: Rows, medium: &[u8]) -> Told {
         return file::failed(next);
     }
     if rows.refused != 0 {
-        show::refused(rows.refused, medium);
+        let fault = rows.fault;
+        show::refused(rows.refused, fault, medium);
         return Told {
             session: next,
             on: true,

@@ -4,15 +4,17 @@ use crate::file;
 use console::Asked;
 use console::Did;
 use keeper::State;
+use row::Fault;
 
 // The state after the rows stored so far and the last of their numbers; those that are not in the file yet, in one sector, the bytes from
-// `from` to `to`; a refusal's number; whether an entry may be left, and whether the file took what was brought.
+// `from` to `to`; a refusal's number and its fault; whether an entry may be left, and whether the file took what was brought.
 pub struct Rows {
     pub state: State,
     pub number: u64,
     pub from: usize,
     pub to: usize,
     pub refused: u32,
+    pub fault: Fault,
     pub more: bool,
     pub taken: bool,
 }
@@ -47,6 +49,7 @@ fn beside(rows: Rows, did: Did, at: usize, end: usize) -> Rows {
         from: if at < from { at } else { from },
         to: if to < end { end } else { to },
         refused: 0,
+        fault: Fault::None,
         more: true,
         taken: true,
     }
@@ -70,6 +73,7 @@ fn hold(fd: i32, medium: &[u8], rows: Rows, did: Did) -> Rows {
         from: at,
         to: end,
         refused: 0,
+        fault: Fault::None,
         more: taken,
         taken,
     }
@@ -78,12 +82,14 @@ fn hold(fd: i32, medium: &[u8], rows: Rows, did: Did) -> Rows {
 // No entry is left, or force was refused: what is held is brought.
 fn ended(fd: i32, medium: &[u8], rows: Rows, did: Did) -> Rows {
     let state = did.state;
+    let fault = did.fault;
     Rows {
         state,
         number: rows.number,
         from: 0,
         to: 0,
         refused: did.refused,
+        fault,
         more: false,
         taken: brought(fd, medium, rows),
     }
@@ -122,6 +128,7 @@ pub fn store_rows(
         from: 0,
         to: 0,
         refused: 0,
+        fault: Fault::None,
         more: true,
         taken: true,
     };

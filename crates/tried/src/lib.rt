@@ -1,9 +1,11 @@
 // A keeper with N = 2 and C = 4, and each call of the library tried on it: what it was, and its answer, in one line.
 use keeper::Answer;
 use keeper::Back;
+use keeper::Outcome;
 use keeper::State;
 use medium::head::format;
 use recovery::Step;
+use row::Fault;
 use state::Numbers;
 use state::Phase;
 
@@ -23,11 +25,26 @@ fn end(key: &[u8], value: u64) {
     io::write_all(1, b"\n");
 }
 
-pub fn told(what: &[u8], answer: Answer) {
+// A refusal's number, and beside it what is wrong with a row.
+fn refused(number: u32, fault: Fault) {
+    let Fault::At { reason, entry } = fault else {
+        end(b" refused=", number as u64);
+        return;
+    };
+    io::write_all(1, b" refused=");
+    io::print_decimal(1, number as u64);
+    io::write_all(1, b" ");
+    faults::print(entry, reason);
+    io::write_all(1, b"\n");
+}
+
+pub fn told(what: &[u8], out: Outcome) {
     io::write_all(1, what);
+    let answer = out.answer;
+    let fault = out.fault;
     match answer {
         Answer::Done(value) => end(b" done=", value),
-        Answer::Refused(number) => end(b" refused=", number as u64),
+        Answer::Refused(number) => refused(number, fault),
     }
 }
 
@@ -64,8 +81,7 @@ pub fn start(what: &[u8], d: Desk) -> Desk {
     let mut last = d.last;
     let waiting = d.waiting;
     let out = State::recovery_start(&medium, &mut current, &mut first, &mut last, &waiting);
-    let answer = out.answer;
-    told(what, answer);
+    told(what, out);
     let next = out.state;
     Desk {
         medium,
@@ -86,8 +102,7 @@ pub fn start_empty(what: &[u8], d: Desk) -> Desk {
     let waiting = d.waiting;
     let nothing = [0u8; 0];
     let out = State::recovery_start(&nothing, &mut current, &mut first, &mut last, &waiting);
-    let answer = out.answer;
-    told(what, answer);
+    told(what, out);
     let next = out.state;
     Desk {
         medium,
@@ -128,8 +143,7 @@ pub fn begin(what: &[u8], d: Desk) -> Desk {
     let mut waiting = d.waiting;
     let state = d.state;
     let out = state.begin(&mut current, &mut first, &mut last, &mut waiting);
-    let answer = out.answer;
-    told(what, answer);
+    told(what, out);
     let next = out.state;
     Desk {
         medium,
@@ -149,8 +163,7 @@ pub fn abort(what: &[u8], d: Desk) -> Desk {
     let mut waiting = d.waiting;
     let state = d.state;
     let out = state.abort(&mut current, &mut first, &mut last, &mut waiting);
-    let answer = out.answer;
-    told(what, answer);
+    told(what, out);
     let next = out.state;
     Desk {
         medium,
@@ -171,8 +184,7 @@ pub fn write(what: &[u8], d: Desk, cell: u32) -> Desk {
     let mut waiting = d.waiting;
     let state = d.state;
     let out = state.write(cell, 7, &mut current, &mut first, &mut last, &mut waiting);
-    let answer = out.answer;
-    told(what, answer);
+    told(what, out);
     let next = out.state;
     Desk {
         medium,
@@ -188,8 +200,7 @@ pub fn read(what: &[u8], d: Desk, cell: u32) {
     let current = d.current;
     let state = d.state;
     let out = state.read(cell, &current);
-    let answer = out.answer;
-    told(what, answer);
+    told(what, out);
 }
 
 pub fn commit(what: &[u8], d: Desk) -> Desk {
@@ -200,8 +211,7 @@ pub fn commit(what: &[u8], d: Desk) -> Desk {
     let mut waiting = d.waiting;
     let state = d.state;
     let out = state.commit(&mut waiting);
-    let answer = out.answer;
-    told(what, answer);
+    told(what, out);
     let next = out.state;
     Desk {
         medium,
@@ -218,8 +228,7 @@ pub fn commit_medium(what: &[u8], d: Desk) {
     let mut medium = d.medium;
     let state = d.state;
     let out = state.commit(&mut medium);
-    let answer = out.answer;
-    told(what, answer);
+    told(what, out);
 }
 
 pub fn force(what: &[u8], d: Desk) -> Desk {
@@ -230,8 +239,7 @@ pub fn force(what: &[u8], d: Desk) -> Desk {
     let waiting = d.waiting;
     let state = d.state;
     let out = state.force(&mut medium, &waiting);
-    let answer = out.answer;
-    told(what, answer);
+    told(what, out);
     let next = out.state;
     Desk {
         medium,
@@ -272,8 +280,7 @@ pub fn cut(what: &[u8], d: Desk, p: u32) -> Desk {
     let waiting = d.waiting;
     let state = d.state;
     let out = state.cut(p, &mut medium, &first);
-    let answer = out.answer;
-    told(what, answer);
+    told(what, out);
     let next = out.state;
     Desk {
         medium,

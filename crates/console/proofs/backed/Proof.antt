@@ -8,13 +8,13 @@ use Rattle.console.proofs.backed.Statement.{statement}
 use Rattle.console.proofs.backed.Tie as tie
 
 returns : tie.Need-returns
-returns c = did-as writtenBack (backPlace _ _) _ _ _ _ (c .before .before .enum-told .given .1) (placed stored _ _ _ _ _ (c .before .cell-at .ensures) (c .answer .ensures))
+returns c = did-as writtenBack (backPlace _ _) _ _ _ _ _ (c .before .before .enum-told .given .1) (placed stored _ _ _ _ _ _ (c .before .cell-at .ensures) (c .answer .ensures))
 
 returns-2 : tie.Need-returns-2
-returns-2 c = did-as writtenBack (backPlace _ _) _ _ _ _ (c .before .enum-told2 .given .1) (c .answer2 .ensures)
+returns-2 c = did-as writtenBack (backPlace _ _) _ _ _ _ _ (c .before .enum-told2 .given .1) (c .answer2 .ensures)
 
 returns-3 : tie.Need-returns-3
-returns-3 c = did-as writtenBack (backPlace _ _) _ _ _ _ (c .before .before .said .given .1) (c .refusal .ensures)
+returns-3 c = did-as writtenBack (backPlace _ _) _ _ _ _ _ (c .before .before .said .given .1) (c .refusal .ensures)
 
 pub backed-spec : {M : Type 1} → statement M
 backed-spec =

@@ -7,10 +7,10 @@ use Rattle.console.proofs.headed.Statement.{statement}
 use Rattle.console.proofs.headed.Tie as tie
 
 returns : tie.Need-returns
-returns c = did-as answered cutPlace _ _ _ _ (c .before .before .said .given .1) (c .answer .ensures)
+returns c = did-as answered cutPlace _ _ _ _ _ (c .before .before .said .given .1) (c .answer .ensures)
 
 returns-2 : tie.Need-returns-2
-returns-2 c = did-as answered cutPlace _ _ _ _ (c .before .before .said2 .given .1) (c .refusal .ensures)
+returns-2 c = did-as answered cutPlace _ _ _ _ _ (c .before .before .said2 .given .1) (c .refusal .ensures)
 
 pub headed-spec : {M : Type 1} → statement M
 headed-spec =

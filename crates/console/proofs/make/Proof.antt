@@ -6,7 +6,7 @@ use Rattle.console.proofs.make.Statement.{statement}
 use Rattle.console.proofs.make.Tie as tie
 
 returns-3 : tie.Need-returns-3
-returns-3 c = start-made _ _ _ _ _ _ _ _ _ _ _ _ _ (omega arith) (c .before .before .before .before .before .before .before .recovery-start .ensures) (c .plain .ensures)
+returns-3 c = start-made _ _ _ _ _ _ _ _ _ _ _ _ _ _ (omega arith) (c .before .before .before .before .before .before .before .recovery-start .ensures) (c .plain .ensures)
 
 pub make-spec : {M : Type 1} → statement M
 make-spec =

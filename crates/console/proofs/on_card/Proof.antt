@@ -6,13 +6,13 @@ use Rattle.console.proofs.on_card.Statement.{statement}
 use Rattle.console.proofs.on_card.Tie as tie
 
 forced-requires : tie.Need-forced-requires
-forced-requires c κs = force-fits _ _ _ _ _ _ _ (c .before .before .force .ensures)
+forced-requires c κs = force-fits _ _ _ _ _ _ _ (c .before .before .force .ensures .0)
 
 returns : tie.Need-returns
-returns c = force-made _ _ _ _ _ _ _ _ _ _ _ (omega arith) (c .before .before .before .force .ensures) (c .forced .ensures)
+returns c = force-made _ _ _ _ _ _ _ _ _ _ _ _ (omega arith) (c .before .before .before .force .ensures) (c .forced .ensures)
 
 returns-2 : tie.Need-returns-2
-returns-2 c = cut-made _ _ _ _ _ _ _ _ _ _ _ (omega arith) (c .before .before .before .cut .ensures) (c .headed .ensures)
+returns-2 c = cut-made _ _ _ _ _ _ _ _ _ _ _ _ (omega arith) (c .before .before .before .cut .ensures) (c .headed .ensures)
 
 returns-3 : tie.Need-returns-3
 returns-3 c = back-made _ _ _ _ _ _ _ _ _ _ _ _ (omega arith) (c .before .before .before .before .before .write-back .ensures) (c .backed .ensures)

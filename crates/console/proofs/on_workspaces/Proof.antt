@@ -6,13 +6,13 @@ use Rattle.console.proofs.on_workspaces.Statement.{statement}
 use Rattle.console.proofs.on_workspaces.Tie as tie
 
 returns : tie.Need-returns
-returns c = begin-made _ _ _ _ _ _ _ _ _ _ _ _ _ _ (omega arith) (c .before .before .before .before .before .before .before .before .before .begin .ensures) (c .plain .ensures)
+returns c = begin-made _ _ _ _ _ _ _ _ _ _ _ _ _ _ _ (omega arith) (c .before .before .before .before .before .before .before .before .before .begin .ensures) (c .plain .ensures)
 
 returns-2 : tie.Need-returns-2
-returns-2 c = write-made _ _ _ _ _ _ _ _ _ _ _ _ _ _ (omega arith) (c .before .before .before .before .before .before .before .before .before .write .ensures) (c .plain2 .ensures)
+returns-2 c = write-made _ _ _ _ _ _ _ _ _ _ _ _ _ _ _ (omega arith) (c .before .before .before .before .before .before .before .before .before .write .ensures) (c .plain2 .ensures)
 
 returns-3 : tie.Need-returns-3
-returns-3 c = abort-made _ _ _ _ _ _ _ _ _ _ _ _ _ _ (omega (arith, c .before .before .before .before .before .before .before .before .before .before .before .before .before .before .before .before .before .before .before .before .before .before .before .pre)) (c .before .before .before .before .before .before .before .before .before .abort .ensures) (c .plain3 .ensures)
+returns-3 c = abort-made _ _ _ _ _ _ _ _ _ _ _ _ _ _ _ (omega (arith, c .before .before .before .before .before .before .before .before .before .before .before .before .before .before .before .before .before .before .before .before .before .before .before .pre)) (c .before .before .before .before .before .before .before .before .before .abort .ensures) (c .plain3 .ensures)
 
 pub on-workspaces-spec : {M : Type 1} → statement M
 on-workspaces-spec =

@@ -7,10 +7,10 @@ use Rattle.console.proofs.plain.Statement.{statement}
 use Rattle.console.proofs.plain.Tie as tie
 
 returns : tie.Need-returns
-returns c = did-as answered (λ a. nowhere) _ _ _ _ (c .before .before .said .given .1) (c .answer .ensures)
+returns c = did-as answered (λ a. nowhere) _ _ _ _ _ (c .before .before .said .given .1) (c .answer .ensures)
 
 returns-2 : tie.Need-returns-2
-returns-2 c = did-as answered (λ a. nowhere) _ _ _ _ (c .before .before .said2 .given .1) (c .refusal .ensures)
+returns-2 c = did-as answered (λ a. nowhere) _ _ _ _ _ (c .before .before .said2 .given .1) (c .refusal .ensures)
 
 pub plain-spec : {M : Type 1} → statement M
 plain-spec =
