@@ -10,7 +10,7 @@ use Rattle.scope.specs.Refusals.{Call, Format, RecoveryStart, RecoveryStep, Beg
 use Rattle.scope.specs.Calls.{unless, act, performed, unchanged}
 use Rattle.scope.proofs.Frames.{onto, frame}
 
--- a call that begins or ends a transaction answers a number only where it is refused
+-- a call whose answer, where it is done, is no refusal: the number in its answer is its refusal's
 numbered : (a : Call) (k : Keeper) → refusalOf (performed a k .answer) ≡ 0 → refusalOf (act a k .answer) ≡ refusal a k
 unfolding act
 numbered a k z = go (refusal a k)
