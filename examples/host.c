@@ -65,12 +65,12 @@ static void stop(const char *what) {
 
 static const char *const REASON[] = {
     "none", "too short", "other number", "unknown kind", "filler not zero", "cell out of range", "cell left in an end entry",
-    "old left in an end entry", "new left in an end entry", "not an update",
+    "old left in an end entry", "new left in an end entry", "not an update", "hole",
 };
 
 static void refused(const struct host *h, uint32_t number) {
     fprintf(stderr, "host: %s\n", REFUSED[number < 12 ? number : 0]);
-    if (h->reason != 0) fprintf(stderr, "entry %u: %s\n", (unsigned)h->entry, REASON[h->reason < 10 ? h->reason : 0]);
+    if (h->reason != 0) fprintf(stderr, "entry %u: %s\n", (unsigned)h->entry, REASON[h->reason < 11 ? h->reason : 0]);
     fprintf(stderr, "refused=%u\n", (unsigned)number);
     exit(1);
 }

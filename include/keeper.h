@@ -41,6 +41,7 @@
  *     3 unknown kind         the kind is none of update, commit, abort    8 new left in an end      its new value is not 0
  *     4 filler not zero      a byte that must be zero is not              9 not an update           abort, and begin in run: a commit
  *     5 cell out of range    the cell is not below N                                                or an abort among the open rows
+ *    10 hole                 recovery start: the row does not hold the entry's number, and that of a later entry does: a stored row was lost
  *   README.md says what the service desk does about each.
  *
  * Rules of use
@@ -88,14 +89,17 @@ extern "C" {
 #define KEEPER_OLD_LEFT 7u
 #define KEEPER_NEW_LEFT 8u
 #define KEEPER_NOT_AN_UPDATE 9u
+#define KEEPER_HOLE 10u
 
 /* Format: an empty table of `cells` cells and an empty journal of `slots` rows. Recovery start gives the first state.
  * Refuses 1: cells, slots or the length out of rule. Stores the whole medium. Costs the medium's bytes, once. */
 uint32_t keeper_format(uint8_t *medium, size_t medium_len, uint32_t cells, uint32_t slots);
 
-/* Recovery start: reads the journal and works out the cells' values, undoing what has no commit; waiting rows keep their bytes.
+/* Recovery start: reads the journal and works out the cells' values, undoing what has no commit; waiting rows keep their bytes. A journal
+ * from whose middle a row was lost is refused, not cut short.
  * Refuses 1, 2; then `state` becomes seven zeros (with another length than seven: 1, and nothing is written). Stores nothing.
- * Costs the stored entries twice and the cells once; an entry of an aborted or unfinished transaction once more. */
+ * Costs the stored entries twice, the number of each row after them, and the cells once; an entry of an aborted or unfinished transaction
+ * once more. */
 uint32_t keeper_recovery_start(const uint8_t *medium, size_t medium_len, uint64_t *current, size_t current_len,
                                uint32_t *first, size_t first_len, uint32_t *last, size_t last_len,
                                const uint8_t *waiting, size_t waiting_len, uint32_t *state, size_t state_len,

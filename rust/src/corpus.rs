@@ -87,14 +87,15 @@ fn value(rng: &mut Rng) -> u64 {
     part | major << 32 | minor << 48
 }
 
-/// Another length, or another byte.
+/// Another length, another byte, or a row that has lost its number.
 fn damage(medium: &mut Vec<u8>, rng: &mut Rng) {
     let len = medium.len();
-    match rng.below(6) {
+    match rng.below(8) {
         0 => medium.truncate(rng.index(len)),
         1 => medium.resize(len + 1 + rng.index(64), 0),
         2 => medium.resize(LARGEST + 1 + rng.index(64), 0),
         3 => medium[rng.index(HEAD)] ^= 1 << rng.below(8),
+        4..6 => medium[HEAD + ROW * rng.index(4)..][..4].fill(0),
         _ => medium[HEAD + rng.index(4 * ROW)] ^= 1 << rng.below(8),
     }
 }

@@ -1,9 +1,9 @@
-//! Directed histories: document 01's sessions, the largest sizes to their brim, the last entry numbers, and every two flaws in
-//! one row.
+//! Directed histories: document 01's sessions, the largest sizes to their brim, the last entry numbers, every two flaws in one
+//! row, and what four rows can hold around a hole.
 
 use crate::desk::{Buffer, Call};
 use crate::event::Event;
-use crate::layout::{slot_of, write_row, Entry, M, ROW};
+use crate::layout::{slot_of, write_row, Entry, Row, M, ROW};
 use crate::play::Opening;
 use crate::spoil::{plain_row, spoiled, FLAWS};
 use crate::state::{Phase, State};
@@ -48,7 +48,7 @@ impl Directed {
 }
 
 pub fn all() -> Vec<Directed> {
-    vec![
+    let mut all = vec![
         sessions(),
         labels(),
         overwritten(),
@@ -59,7 +59,9 @@ pub fn all() -> Vec<Directed> {
         broken_row(),
         flawed_rows(),
         other_sizes(),
-    ]
+    ];
+    all.extend(holes());
+    all
 }
 
 /// Cases 1 to 9 and 12, one after the other.
@@ -178,4 +180,31 @@ fn other_sizes() -> Directed {
     let mut d = Directed::new("sizes out of rule", 2, 4, 0);
     d.calls([(2, 3), (2, 1025), (0, 4), (1025, 4), (3, 4), (M, M)].map(|(cells, slots)| Call::Format { cells, slots }));
     d
+}
+
+/// Every medium of four rows in which each row has its number or another, for heads far from M and near it.
+pub fn holes() -> impl Iterator<Item = Directed> {
+    [0, 6, M - 5, M - 4, M - 3, M - 2, M - 1, M].into_iter().map(|h| {
+        let mut d = Directed::new("holes in four rows", 2, 4, h);
+        for way in 0..WAYS.pow(4) {
+            let place = |k: u32| (h.wrapping_add(k) % 4) as usize;
+            let row = |k: u32| held(h.wrapping_add(k + 1), way / WAYS.pow(k) % WAYS);
+            d.events.extend((0..4).map(|k| Event::Row { buffer: Buffer::Medium, slot: place(k), row: row(k) }));
+            d.calls([Call::RecoveryStart]);
+        }
+        d
+    })
+}
+
+/// How many ways `held` knows.
+const WAYS: u32 = 6;
+
+/// The row in the place of entry `number`, of four rows: as it should be, malformed, with no number, with the number of a turn
+/// before or after, or with the next one's.
+fn held(number: u32, way: u32) -> Row {
+    let number =
+        [number, number, 0, number.wrapping_sub(4), number.wrapping_add(4), number.wrapping_add(1)][way as usize];
+    let mut row = plain_row(number);
+    row[4] += 3 * u8::from(way == 1);
+    row
 }

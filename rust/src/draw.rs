@@ -3,7 +3,7 @@
 
 use crate::desk::{Buffer, Call, Desk, BUFFERS};
 use crate::event::Event;
-use crate::layout::{read_row, slot_of, word4, write_row, Entry, Row, CELL, HEAD, LEAST_SLOTS, M, ROW};
+use crate::layout::{number_in, read_row, slot_of, word4, write_row, Entry, Row, CELL, HEAD, LEAST_SLOTS, M, ROW};
 use crate::play::Opening;
 use crate::rng::Rng;
 use crate::spoil::{spoil, FLAWS};
@@ -401,7 +401,20 @@ impl Draw {
         }
     }
 
-    /// A journal from h+1 on, on a table with something in it. The journal ends by a stale row, spoiled ones, or a turn.
+    /// Another number in a row: none, the next one's, that of a turn before or after, or one with another bit.
+    fn wear(&mut self, row: &mut Row, slots: u32) {
+        let number = number_in(row);
+        let worn = match self.rng.below(8) {
+            0..4 => 0,
+            4 => number.wrapping_add(1),
+            5 => number.wrapping_sub(slots),
+            6 => number.wrapping_add(slots),
+            _ => number ^ 1 << self.rng.below(32),
+        };
+        row[..4].copy_from_slice(&worn.to_le_bytes());
+    }
+
+    /// A journal from h+1 on, on a table with something in it. The journal ends by a stale row, spoiled or worn ones, or a turn.
     fn journal(&mut self, h: u32) {
         let Opening { cells, slots, .. } = self.opening;
         for _ in 0..self.rng.below(6) {
@@ -411,9 +424,13 @@ impl Draw {
         let most = slots.min(M - h);
         let made = if self.rng.percent(30) { most } else { self.rng.between(0, most) };
         let spoiled = if self.rng.percent(30) { self.rng.between(0, made) } else { M };
+        let worn = self.rng.pick(&[0, 0, 15, 50]);
         for k in 0..made {
             let flawed = if k < spoiled { 0 } else { 50 };
-            let row = self.row(h + k + 1, cells, flawed);
+            let mut row = self.row(h + k + 1, cells, flawed);
+            if self.rng.percent(worn) {
+                self.wear(&mut row, slots);
+            }
             self.queue.push_back(Event::Row { buffer: Buffer::Medium, slot: slot_of(h + k + 1, slots), row });
         }
         self.queue.push_back(Event::PowerLoss { rubbish: self.rng.word() });
@@ -432,7 +449,8 @@ impl Draw {
                 at: self.rng.index(desk.waiting.len()),
                 value: self.rng.below(256),
             },
-            2..5 => self.damaged_row(desk),
+            2..4 => self.damaged_row(desk),
+            4 => self.worn_row(desk),
             5..8 => self.damaged_mark(desk),
             8 if self.rng.percent(30) => self.damaged_head(desk),
             _ => match state {
@@ -449,6 +467,16 @@ impl Draw {
         let number = self.rng.between(low, high).saturating_add(self.rng.below(2) as u32).max(1);
         let row = self.row(number, desk.cells, 40);
         Event::Row { buffer, slot: slot_of(number, desk.slots), row }
+    }
+
+    /// A stored row with another number.
+    fn worn_row(&mut self, desk: &Desk) -> Event {
+        let h = word4(&desk.medium, 8);
+        let (low, high) = desk.state().map_or((h, h.saturating_add(desk.slots)), |state| (state.h, state.f));
+        let slot = slot_of(self.rng.between(low, high).max(1), desk.slots);
+        let mut row = *desk.medium[HEAD + ROW * slot..].first_chunk().unwrap();
+        self.wear(&mut row, desk.slots);
+        Event::Row { buffer: Buffer::Medium, slot, row }
     }
 
     fn damaged_mark(&mut self, desk: &Desk) -> Event {

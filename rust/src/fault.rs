@@ -1,10 +1,10 @@
-//! Document 01's "Ways it has gone wrong", and ways to name a bad row wrongly, each to be put into the second program alone.
-//! The comparison must find every one.
+//! Document 01's "Ways it has gone wrong", ways to name a bad row wrongly, and ways to miss a hole in the journal or to see
+//! one where none is, each to be put into the second program alone. The comparison must find every one.
 //!
 //! The calls that can go wrong take the way as a constant, so that the sound program pays nothing for the switch.
 
-use crate::layout::{number_in, read_row, word4, Entry, Flaw, Head, Row, M};
-use crate::second::turn;
+use crate::layout::{number_in, read_row, slot_of, word4, Entry, Flaw, Head, Row, M};
+use crate::second::{held_after, turn};
 
 #[derive(Clone, Copy, Debug, PartialEq, Eq)]
 #[repr(u8)]
@@ -38,6 +38,26 @@ pub enum Fault {
     BesideNine,
     /// With no state of seven numbers, reason and entry stay as they were.
     LeftUnwritten,
+    /// The search for a later row leaves out the last place.
+    SearchShort,
+    /// The search goes on to entry h+C+1, whose place is that of h+1.
+    PastTurn,
+    /// The search goes on past M, where the numbers wrap to 0.
+    PastM,
+    /// A row of the turn before counts.
+    StaleCounts,
+    /// A later number counts wherever it stands.
+    OtherPlace,
+    /// A later row counts only where it reads.
+    LaterMustRead,
+    /// The hole is named at the later row.
+    HoleAtLater,
+    /// A malformed row after the hole goes before it.
+    LaterFlawFirst,
+    /// The hole goes before a malformed row before it.
+    HoleFirst,
+    /// The journal ends at the hole.
+    HoleIgnored,
 }
 
 /// The ways of document 01.
@@ -53,6 +73,19 @@ pub const OF_NAMING: [Fault; 8] = [
     Fault::EntryOffByOne,
     Fault::BesideNine,
     Fault::LeftUnwritten,
+];
+/// The ways about a hole.
+pub const OF_HOLES: [Fault; 10] = [
+    Fault::SearchShort,
+    Fault::PastTurn,
+    Fault::PastM,
+    Fault::StaleCounts,
+    Fault::OtherPlace,
+    Fault::LaterMustRead,
+    Fault::HoleAtLater,
+    Fault::LaterFlawFirst,
+    Fault::HoleFirst,
+    Fault::HoleIgnored,
 ];
 
 pub const NONE: u8 = Fault::None as u8;
@@ -70,6 +103,16 @@ pub const HIGHEST_STORED: u8 = Fault::HighestStored as u8;
 pub const ENTRY_OFF_BY_ONE: u8 = Fault::EntryOffByOne as u8;
 pub const BESIDE_NINE: u8 = Fault::BesideNine as u8;
 pub const LEFT_UNWRITTEN: u8 = Fault::LeftUnwritten as u8;
+pub const SEARCH_SHORT: u8 = Fault::SearchShort as u8;
+pub const PAST_TURN: u8 = Fault::PastTurn as u8;
+pub const PAST_M: u8 = Fault::PastM as u8;
+pub const STALE_COUNTS: u8 = Fault::StaleCounts as u8;
+pub const OTHER_PLACE: u8 = Fault::OtherPlace as u8;
+pub const LATER_MUST_READ: u8 = Fault::LaterMustRead as u8;
+pub const HOLE_AT_LATER: u8 = Fault::HoleAtLater as u8;
+pub const LATER_FLAW_FIRST: u8 = Fault::LaterFlawFirst as u8;
+pub const HOLE_FIRST: u8 = Fault::HoleFirst as u8;
+pub const HOLE_IGNORED: u8 = Fault::HoleIgnored as u8;
 
 /// The committed updates of entries h+1 to e, in order of number.
 fn committed(rows: &[Row], head: &Head, e: u32) -> Vec<(usize, u64)> {
@@ -116,4 +159,53 @@ pub fn highest_stored<'a>(rows: &'a [Row], head: &Head) -> (Flaw, &'a Row, u32) 
     let stored = turn(rows, head.h, M).zip(head.h..M).take_while(|(row, n)| number_in(row) == n + 1);
     let flawed = |(row, n): (&'a Row, u32)| read_row(row, head.cells, n + 1).err().map(|flaw| (flaw, row, n + 1));
     stored.filter_map(flawed).last().unwrap()
+}
+
+/// What is said where entry n, from h+1 on, is the first whose row doesn't hold it: the flaw and its entry, or none where the
+/// journal ends.
+#[inline(always)]
+pub fn hole<const FAULT: u8>(rows: &[Row], head: &Head, n: u32) -> Option<(Flaw, u32)> {
+    match FAULT {
+        HOLE_IGNORED => None,
+        HOLE_AT_LATER => held_after(rows, head.h, n).map(|later| (Flaw::Hole, later)),
+        LATER_FLAW_FIRST => later_flaw(rows, head, n).or_else(|| hole::<NONE>(rows, head, n)),
+        SEARCH_SHORT..=LATER_MUST_READ => searched::<FAULT>(rows, head, n).then_some((Flaw::Hole, n)),
+        _ => held_after(rows, head.h, n).map(|_| (Flaw::Hole, n)),
+    }
+}
+
+/// The numbers after n, up to the lesser of h+C and M, each with its row.
+fn after<'a>(rows: &'a [Row], head: &Head, n: u32) -> impl Iterator<Item = (u32, &'a Row)> + 'a {
+    let slots = head.slots;
+    (n..head.h.saturating_add(slots)).map(move |k| (k + 1, &rows[slot_of(k + 1, slots)]))
+}
+
+/// Whether a later row is found by one of the ways to search for it wrongly.
+fn searched<const FAULT: u8>(rows: &[Row], head: &Head, n: u32) -> bool {
+    let &Head { cells, slots, h } = head;
+    let last = h.saturating_add(slots);
+    let found = held_after(rows, h, n);
+    match FAULT {
+        SEARCH_SHORT => found.is_some_and(|later| later != last),
+        PAST_TURN => found.is_some() || M - h > slots && number_in(&rows[slot_of(last + 1, slots)]) == last + 1,
+        PAST_M => found.is_some() || M - h < slots && number_in(&rows[(M % slots) as usize]) == 0,
+        STALE_COUNTS => {
+            let stale = |(k, row): (u32, &Row)| k > slots && number_in(row) == k - slots;
+            found.is_some() || after(rows, head, n).any(stale)
+        }
+        OTHER_PLACE => rows.iter().any(|row| (n..=last).contains(&number_in(row)) && number_in(row) != n),
+        _ => after(rows, head, n).any(|(k, row)| read_row(row, cells, k).is_ok()),
+    }
+}
+
+/// The way `LaterFlawFirst`: the first row after n that holds its number and doesn't read.
+fn later_flaw(rows: &[Row], head: &Head, n: u32) -> Option<(Flaw, u32)> {
+    let held = after(rows, head, n).filter(|(k, row)| number_in(row) == *k);
+    held.filter_map(|(k, row)| read_row(row, head.cells, k).err().map(|flaw| (flaw, k))).next()
+}
+
+/// The way `HoleFirst`: the hole, whatever stands before it.
+pub fn hole_first<'a>(rows: &'a [Row], head: &Head) -> Option<(Flaw, &'a Row, u32)> {
+    let (n, row) = after(rows, head, head.h).find(|(k, row)| number_in(row) != *k)?;
+    held_after(rows, head.h, n).map(|_| (Flaw::Hole, row, n))
 }

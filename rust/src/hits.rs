@@ -4,11 +4,12 @@
 use crate::desk::Buffer::{self, Current, First, Last, Medium, Row, State as Numbers, Waiting};
 use crate::desk::{Answer, Call, Desk, BUFFERS};
 use crate::keeper::{STEP_CLEAN, STEP_HEAD};
-use crate::layout::{self, number_in, read_row, rows, slot_of, word4, Entry, Head, HEAD, M, REASONS, ROW};
+use crate::layout::{
+    self, number_in, read_row, rows, slot_of, word4, Entry, Flaw, Head, HEAD, LEAST_SLOTS, M, REASONS, ROW,
+};
 use crate::second::turn;
 use crate::state::{Phase, State};
 use std::fmt::Write;
-use std::ops::Range;
 
 /// A call's name, its allowed answers and the buffers it is lent.
 struct Line {
@@ -35,20 +36,20 @@ const LINES: [Line; 15] = [
     Line { name: "write row", numbers: &[0, 1], lent: &[Row] },
 ];
 
-/// The reasons that a call can give. Rows in their places are never too short, recovery start reads those with the number, and
-/// only open rows have to be updates.
-fn reasons(call: usize) -> Range<usize> {
+/// The reasons that a call can give. Rows in their places are never too short, recovery start reads those with the number and
+/// alone looks for holes, and only open rows have to be updates.
+fn reasons(call: usize) -> &'static [usize] {
     match LINES[call].name {
-        "recovery start" => 3..9,
-        "begin" | "abort" => 2..10,
-        "force" | "cut" => 2..9,
-        "read row" => 1..9,
-        _ => 0..0,
+        "recovery start" => &[3, 4, 5, 6, 7, 8, 10],
+        "begin" | "abort" => &[2, 3, 4, 5, 6, 7, 8, 9],
+        "force" | "cut" => &[2, 3, 4, 5, 6, 7, 8],
+        "read row" => &[1, 2, 3, 4, 5, 6, 7, 8],
+        _ => &[],
     }
 }
 
 /// Kinds of answer that one number doesn't tell apart.
-const CASES: [&str; 28] = [
+const CASES: [&str; 37] = [
     "recovery step: a cell",
     "recovery step: the head",
     "recovery step: clean",
@@ -75,11 +76,21 @@ const CASES: [&str; 28] = [
     "open rows, two bad ones: 7",
     "stored rows, two bad ones: 2",
     "a row with two flaws: 2, 7",
+    "a hole, four rows: 2",
+    "a hole, only the last place after it: 2",
+    "a hole, M's row after it: 2",
+    "a hole, a malformed row after it: 2",
+    "a malformed row, a hole after it: 2",
+    "no hole, a later number in another's place: 0",
+    "no hole, h+C+1 in the place of h+1: 0",
+    "no hole, a stale row: 0",
+    "no hole, more rows than numbers: 0",
     "an unsound state: 1",
     "a phase that is none: 1",
 ];
 
 const NUMBERS: usize = 12;
+const HOLE: u32 = Flaw::Hole as u32;
 
 pub struct Hits {
     answers: [[u64; NUMBERS]; LINES.len()],
@@ -153,7 +164,7 @@ impl Hits {
                 self.lengths[at][buffer as usize] += 1;
             }
         }
-        if let Some(name) = case_of(made, answer, desk) {
+        for name in case_of(made, answer, desk).into_iter().chain(hole_cases(made, answer, desk)) {
             let case = CASES.iter().position(|&case| case == name).unwrap();
             self.cases[case] += 1;
         }
@@ -165,8 +176,8 @@ impl Hits {
         for (at, line) in LINES.iter().enumerate() {
             let numbers = line.numbers.iter().filter(|&&number| self.answers[at][number as usize] == 0);
             missed.extend(numbers.map(|number| format!("{}: {number}", line.name)));
-            let unsaid = reasons(at).filter(|&reason| self.reasons[at][reason] == 0);
-            missed.extend(unsaid.map(|reason| format!("{}: reason {reason}, {}", line.name, REASONS[reason])));
+            let unsaid = reasons(at).iter().filter(|&&reason| self.reasons[at][reason] == 0);
+            missed.extend(unsaid.map(|&reason| format!("{}: reason {reason}, {}", line.name, REASONS[reason])));
             let lent = line.lent.iter().filter(|&&buffer| self.lengths[at][buffer as usize] == 0);
             missed.extend(lent.map(|buffer| format!("{} lent a wrong length of {buffer:?}", line.name)));
         }
@@ -203,7 +214,7 @@ impl Hits {
         }
         text.push_str("\n\n");
         for (name, count) in CASES.iter().zip(&self.cases) {
-            writeln!(text, "{name:32}{count:>9}").unwrap();
+            writeln!(text, "{name:46}{count:>9}").unwrap();
         }
         text
     }
@@ -240,7 +251,7 @@ fn case_of(made: &Made, answer: Answer, desk: &Desk) -> Option<&'static str> {
         return Some(if made.phase > 2 { "a phase that is none: 1" } else { "an unsound state: 1" });
     }
     if let (Call::RecoveryStart, 2) = (made.call, answer.number) {
-        return bad_stored(answer.bad.entry, desk);
+        return if answer.bad.reason == HOLE { None } else { bad_stored(answer.bad.entry, desk) };
     }
     let state = made.state?;
     let run = state.phase == Phase::Run;
@@ -295,7 +306,7 @@ fn bad_open(entry: u32, state: &State, desk: &Desk) -> Option<&'static str> {
     two_flaws(row(entry), state.cells, entry)
 }
 
-/// Refusal 2 of recovery start, which names an entry.
+/// Refusal 2 of recovery start, which names an entry that doesn't read.
 fn bad_stored(entry: u32, desk: &Desk) -> Option<&'static str> {
     let Head { cells, slots, h } = Head::of(desk.lent_medium())?;
     let rows = rows(desk.lent_medium(), slots);
@@ -319,4 +330,71 @@ fn two_flaws(row: &layout::Row, cells: u32, number: u32) -> Option<&'static str>
         end_with(24, 8),
     ];
     (flaws.iter().filter(|&&flaw| flaw).count() > 1).then_some("a row with two flaws: 2, 7")
+}
+
+/// The stored rows as the search for a hole meets them.
+struct Search {
+    head: Head,
+    /// The first number that its row doesn't hold, up to the lesser of h+C and M.
+    n: u32,
+    /// The rows after it, with the numbers that belong there.
+    after: Vec<(u32, layout::Row)>,
+}
+
+impl Search {
+    /// None where every row holds its number.
+    fn of(medium: &[u8]) -> Option<Search> {
+        let head = Head::of(medium)?;
+        let rows = turn(rows(medium, head.slots), head.h, M).zip(head.h..M);
+        let mut unheld = rows.map(|(row, n)| (n + 1, *row)).skip_while(|(n, row)| number_in(row) == *n);
+        let (n, _) = unheld.next()?;
+        Some(Search { head, n, after: unheld.collect() })
+    }
+
+    fn held(&self) -> impl Iterator<Item = &(u32, layout::Row)> {
+        self.after.iter().filter(|(n, row)| number_in(row) == *n)
+    }
+
+    /// What a refusal with a hole shows.
+    fn hole(&self) -> [(&'static str, bool); 4] {
+        let Head { cells, slots, h } = self.head;
+        let last = h.saturating_add(slots);
+        let malformed = |(n, row): &(u32, layout::Row)| read_row(row, cells, *n).is_err();
+        [
+            ("a hole, four rows: 2", slots == LEAST_SLOTS),
+            ("a hole, only the last place after it: 2", self.held().all(|(n, _)| *n == last)),
+            ("a hole, M's row after it: 2", self.held().any(|(n, _)| *n == M)),
+            ("a hole, a malformed row after it: 2", self.held().any(malformed)),
+        ]
+    }
+
+    /// What an accepted start shows, of which a careless search would make a hole.
+    fn no_hole(&self, rows: &[layout::Row]) -> [(&'static str, bool); 4] {
+        let Head { slots, h, .. } = self.head;
+        let last = h.saturating_add(slots);
+        let beyond = h.checked_add(slots).and_then(|last| last.checked_add(1));
+        let later = |row: &layout::Row| self.n < number_in(row) && number_in(row) <= last;
+        let stale = |(n, row): &(u32, layout::Row)| *n > slots && number_in(row) == n - slots;
+        [
+            ("no hole, a later number in another's place: 0", rows.iter().any(later)),
+            ("no hole, h+C+1 in the place of h+1: 0", beyond == Some(number_in(&rows[h as usize % rows.len()]))),
+            ("no hole, a stale row: 0", self.after.iter().any(stale)),
+            ("no hole, more rows than numbers: 0", M - h < slots),
+        ]
+    }
+}
+
+/// What a recovery start shows about holes.
+fn hole_cases(made: &Made, answer: Answer, desk: &Desk) -> Vec<&'static str> {
+    let medium = desk.lent_medium();
+    let Some(search) = (made.call == Call::RecoveryStart).then(|| Search::of(medium)).flatten() else {
+        return Vec::new();
+    };
+    let cases = match (answer.number, answer.bad.reason) {
+        (0, _) => search.no_hole(rows(medium, search.head.slots)).to_vec(),
+        (2, HOLE) => search.hole().to_vec(),
+        (2, _) => vec![("a malformed row, a hole after it: 2", search.held().next().is_some())],
+        _ => Vec::new(),
+    };
+    cases.into_iter().filter_map(|(name, shown)| shown.then_some(name)).collect()
 }

@@ -133,6 +133,16 @@ pub fn second(fault: Fault) -> &'static dyn Keeper {
         Fault::EntryOffByOne => &Second::<{ fault::ENTRY_OFF_BY_ONE }>,
         Fault::BesideNine => &Second::<{ fault::BESIDE_NINE }>,
         Fault::LeftUnwritten => &Second::<{ fault::LEFT_UNWRITTEN }>,
+        Fault::SearchShort => &Second::<{ fault::SEARCH_SHORT }>,
+        Fault::PastTurn => &Second::<{ fault::PAST_TURN }>,
+        Fault::PastM => &Second::<{ fault::PAST_M }>,
+        Fault::StaleCounts => &Second::<{ fault::STALE_COUNTS }>,
+        Fault::OtherPlace => &Second::<{ fault::OTHER_PLACE }>,
+        Fault::LaterMustRead => &Second::<{ fault::LATER_MUST_READ }>,
+        Fault::HoleAtLater => &Second::<{ fault::HOLE_AT_LATER }>,
+        Fault::LaterFlawFirst => &Second::<{ fault::LATER_FLAW_FIRST }>,
+        Fault::HoleFirst => &Second::<{ fault::HOLE_FIRST }>,
+        Fault::HoleIgnored => &Second::<{ fault::HOLE_IGNORED }>,
     }
 }
 

@@ -176,10 +176,12 @@ pub enum Flaw {
     NewLeft,
     /// Of a row that reads as a commit or abort, where an update is needed.
     NotAnUpdate,
+    /// Of a row of the stored journal that does not hold its number, where a later one does.
+    Hole,
 }
 
 /// The flaws in words, by number.
-pub const REASONS: [&str; 10] = [
+pub const REASONS: [&str; 11] = [
     "none",
     "too short",
     "other number",
@@ -190,6 +192,7 @@ pub const REASONS: [&str; 10] = [
     "old left in an end entry",
     "new left in an end entry",
     "not an update",
+    "hole",
 ];
 
 /// The number that a row holds, whatever the rest of it says.

@@ -1,6 +1,6 @@
 //! Two keepers at two desks, led through the same history. After every call both answers and every byte of both desks must be
 //! equal, a refusal must have changed nothing and name a bad row only where it may, a call must have made one store at most,
-//! and the ledger must agree.
+//! recovery must not refuse the journal of a clean history, and the ledger must agree.
 
 use crate::desk::{Answer, Buffer, Call, Desk};
 use crate::event::Event;
@@ -106,6 +106,9 @@ impl<'a> Play<'a> {
                 let desk = &self.desks[0];
                 self.ledger = ((cells, slots) == (desk.cells, desk.slots)).then(|| Ledger::new(cells));
                 return None;
+            }
+            Call::RecoveryStart if answer.number == 2 && self.ledger.is_some() => {
+                return Some("recovery refused what calls alone have stored".to_string());
             }
             Call::RecoveryStart if answer.number != 0 => self.ledger.iter_mut().for_each(Ledger::lose_power),
             Call::ReadRow { .. } | Call::WriteRow { .. } => return None,

@@ -14,7 +14,7 @@ pub type Refusal = u32;
 
 /// The state is not sound, or a lent buffer has another length than N and C say, or the head is out of rule.
 pub const OUT_OF_RULE: Refusal = 1;
-/// A row with the expected number doesn't read as an entry.
+/// A row with the expected number doesn't read as an entry, or there is a hole in the journal.
 pub const BROKEN_ROW: Refusal = 2;
 /// No transaction is open.
 pub const NOT_OPEN: Refusal = 3;
@@ -207,17 +207,32 @@ pub fn turn(rows: &[Row], h: u32, e: u32) -> impl Iterator<Item = &Row> {
     from.iter().chain(before).take((e - h) as usize)
 }
 
-/// The last entry of the stored journal.
+/// The first number after n, up to the lesser of h+C and M, that its own row holds; n is from h+1 on.
+#[inline]
+pub fn held_after(rows: &[Row], h: u32, n: u32) -> Option<u32> {
+    let (mut number, left) = (n, rows.len() - (n - h) as usize);
+    let held = |row: &Row| {
+        number += 1;
+        number_in(row) == number
+    };
+    turn(rows, n, M).take(left).any(held).then_some(number)
+}
+
+/// The last entry of the stored journal, which has no hole.
 #[inline]
 fn last_stored<const FAULT: u8>(rows: &[Row], head: &Head) -> Result<u32, Refused> {
     let mut e = head.h;
     for row in turn(rows, head.h, M) {
         if number_in(row) != e + 1 {
-            break;
+            let Some((flaw, entry)) = fault::hole::<FAULT>(rows, head, e + 1) else {
+                break;
+            };
+            return Err(bad_row::<FAULT>(BROKEN_ROW, flaw, row, head.cells, entry));
         }
         if let Err(flaw) = read_row(row, head.cells, e + 1) {
             let (flaw, row, entry) = match FAULT {
                 fault::HIGHEST_STORED => fault::highest_stored(rows, head),
+                fault::HOLE_FIRST => fault::hole_first(rows, head).unwrap_or((flaw, row, e + 1)),
                 _ => (flaw, row, e + 1),
             };
             return Err(bad_row::<FAULT>(BROKEN_ROW, flaw, row, head.cells, entry));

@@ -26,7 +26,7 @@ pub fn plain_row(number: u32) -> Row {
 pub fn spoil(row: &mut Row, flaw: Flaw, cells: u32, salt: u64) {
     let pick = |from: &[u8]| from[salt as usize % from.len()];
     match flaw {
-        Flaw::TooShort => {}
+        Flaw::TooShort | Flaw::Hole => {}
         Flaw::OtherNumber if salt.is_multiple_of(4) => row[..4].fill(0),
         Flaw::OtherNumber => {
             let other = number_in(row).wrapping_add([1, 256, M][salt as usize % 3]);

@@ -80,7 +80,7 @@ impl Terminal {
         self.first.fill(99);
         self.last.fill(99);
         self.waiting.fill(99);
-        let (start, mut steps) = (self.start(), Vec::new());
+        let ((start, _), mut steps) = (self.start(), Vec::new());
         outcome(start, 0)?;
         while steps.last().is_none_or(|&step| step < STEP_HEAD) {
             let mut value = 0;
@@ -91,9 +91,16 @@ impl Terminal {
         Ok(steps)
     }
 
-    fn start(&mut self) -> u32 {
+    /// Start's number and the row that it names.
+    fn start(&mut self) -> (u32, BadRow) {
         let Terminal { keeper, medium, current, first, last, waiting, state } = self;
-        keeper.recovery_start(medium, current, first, last, waiting, state, &mut BadRow::default())
+        let mut bad = BadRow::default();
+        (keeper.recovery_start(medium, current, first, last, waiting, state, &mut bad), bad)
+    }
+
+    /// The row of an entry loses its number.
+    fn wear(&mut self, entry: usize) {
+        self.medium[HEAD + ROW * (entry - 1)..][..4].fill(0);
     }
 
     fn begin(&mut self) -> Outcome {
@@ -266,6 +273,25 @@ fn case_14_kind_4_and_number_0() {
     t.medium[HEAD + 4] = 4;
     assert_eq!(t.recover(), Err(2));
     assert_eq!((t.state, t.current[0]), ([0; 7], 99));
-    t.medium[HEAD..HEAD + 4].fill(0);
+    // With no later row the journal ends.
+    let mut t = Terminal::new();
+    assert_eq!([t.begin(), t.write(0, A), t.force()], [Ok(0), Ok(0), Ok(1)]);
+    t.wear(1);
     assert_eq!(t.recover(), Ok(vec![STEP_CLEAN]));
+}
+
+#[test]
+fn case_14_number_0_before_a_later_row() {
+    for entry in [1, 2] {
+        let mut t = Terminal::with_b(3);
+        assert_eq!(t.write_back(0), Ok(1));
+        t.wear(entry);
+        assert_eq!(t.start(), (2, BadRow { reason: 10, entry: entry as u32 }));
+        assert_eq!(t.state, [0; 7]);
+        assert_eq!(listing::text(t.keeper, &mut t.medium.clone()), "refused=2\n");
+    }
+    let mut t = Terminal::with_b(3);
+    t.wear(3);
+    assert_eq!(t.start(), (0, BadRow::default()));
+    assert_eq!(t.state, [2, 4, 0, 2, 2, 2, 2]);
 }

@@ -1,10 +1,11 @@
 //! The comparison itself: it finds every fault, and so does the ledger where both programs share one of the paper's.
 
+use second::directed;
 use second::draw::Draw;
-use second::fault::{Fault, OF_NAMING, OF_THE_PAPER};
+use second::fault::{Fault, OF_HOLES, OF_NAMING, OF_THE_PAPER};
 use second::hits::Hits;
 use second::keeper::{self, Keeper};
-use second::play::Play;
+use second::play::{self, Play};
 use second::rng::Rng;
 
 /// The first of so many random histories that shows a difference, and the difference.
@@ -32,7 +33,7 @@ fn equal_programs_show_no_difference_and_every_pair_is_reached() {
 
 #[test]
 fn every_fault_shows() {
-    for fault in OF_THE_PAPER.into_iter().chain(OF_NAMING) {
+    for fault in OF_THE_PAPER.into_iter().chain(OF_NAMING).chain(OF_HOLES) {
         let keepers = [keeper::second(Fault::None), keeper::second(fault)];
         assert!(first_difference(keepers, 300, &mut Hits::default()).is_some(), "{fault:?}");
     }
@@ -45,6 +46,24 @@ fn the_ledger_finds_every_fault_of_the_paper_that_both_share() {
         let found = first_difference(keepers, 2000, &mut Hits::default());
         println!("{fault:?}: {found:?}");
         assert!(found.is_some(), "{fault:?}");
+    }
+}
+
+#[test]
+fn four_rows_show_every_fault_about_a_hole() {
+    for fault in OF_HOLES {
+        let keepers = [keeper::second(Fault::None), keeper::second(fault)];
+        let shows = directed::holes().any(|d| play::replay(keepers, d.opening, &d.events).is_some());
+        assert!(shows, "{fault:?}");
+    }
+}
+
+#[test]
+fn the_ledger_finds_a_hole_seen_in_a_clean_history() {
+    for fault in [Fault::StaleCounts, Fault::PastM] {
+        let keepers = [keeper::second(fault), keeper::second(fault)];
+        let found = first_difference(keepers, 300, &mut Hits::default());
+        assert!(found.is_some_and(|(_, difference)| difference.starts_with("recovery refused")), "{fault:?}");
     }
 }
 

@@ -154,8 +154,10 @@ fn the_lowest_bad_row_is_named() {
 #[test]
 fn a_row_past_the_journal_is_not_judged() {
     let mut desk = desk();
-    put(&mut desk, Buffer::Medium, 17, spoiled(17, [Flaw::UnknownKind; 2], 3, 0));
-    assert_eq!(named(&desk, Call::RecoveryStart), (0, NONE));
+    for number in [1, 9, 13, 18, 25] {
+        put(&mut desk, Buffer::Medium, 17, spoiled(number, [Flaw::UnknownKind; 2], 3, 0));
+        assert_eq!(named(&desk, Call::RecoveryStart), (0, NONE), "{number}");
+    }
 }
 
 #[test]
@@ -207,7 +209,8 @@ fn begin_judges_rows_before_room() {
 #[test]
 fn a_person_reads_the_entry_and_the_words() {
     assert_eq!(BadRow { reason: 5, entry: 3 }.to_string(), "entry 3: cell out of range");
-    assert_eq!(REASONS.len() - 1, Flaw::NotAnUpdate as usize);
+    assert_eq!(BadRow { reason: 10, entry: 3 }.to_string(), "entry 3: hole");
+    assert_eq!(REASONS.len() - 1, Flaw::Hole as usize);
 }
 
 #[test]
@@ -225,7 +228,7 @@ fn the_samples_say_what_stands_beside_them() {
     }
     reasons.sort();
     reasons.dedup();
-    assert_eq!(reasons, [3, 4, 5, 6, 7, 8]);
+    assert_eq!(reasons, [3, 4, 5, 6, 7, 8, 10]);
 }
 
 fn recovery_names(medium: &[u8]) -> BadRow {

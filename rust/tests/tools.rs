@@ -4,16 +4,18 @@ use second::corpus;
 use second::counter::{self, Hand, Order, NO_PART};
 use second::directed::{A, B};
 use second::layout::{
-    medium_len, slot_of, store_cell, store_row, write_row, Entry, Fitment, Head, Release, LARGEST, M, ROW,
+    medium_len, number_in, rows, slot_of, store_cell, store_row, write_row, Entry, Fitment, Head, Release, LARGEST, M,
+    ROW,
 };
 use second::month::Month;
-use second::second::{NO_SUCH_CELL, OUT_OF_RULE};
+use second::second::{held_after, BROKEN_ROW, NO_SUCH_CELL, OUT_OF_RULE};
 use second::tool;
 use second::why::{decision, Decision, Reason, Walker};
 use std::io::Write;
 use std::process::{Command, Stdio};
 
 const COUNTER: &str = env!("CARGO_BIN_EXE_counter");
+const LISTING: &str = env!("CARGO_BIN_EXE_listing");
 const WHY: &str = env!("CARGO_BIN_EXE_why");
 const MONTH: &str = env!("CARGO_BIN_EXE_month");
 
@@ -361,6 +363,23 @@ fn refused_stores_count_as_refused() {
     assert_eq!(run(MONTH, names.join("\n")), text);
 }
 
+// ---- ticket 5
+
+#[test]
+fn every_tool_refuses_a_medium_with_a_hole() {
+    let mut medium = with_journal(4, 5, &[update(0, A, B), Entry::Commit, update(1, 0, A), Entry::Commit]);
+    medium[32 + 32 * slot_of(8, 4)..][..4].fill(0);
+    let worn = file("worn", &medium);
+    assert_eq!(run(LISTING, &medium), "refused=2\n");
+    assert_eq!([run(WHY, format!("{worn}\n0\n")), run(WHY, format!("{worn}\n1\n"))], ["refused=2\n"; 2]);
+    assert_eq!(run(WHY, format!("{worn}\n3\n")), "refused=4\n");
+    assert_eq!(run(COUNTER, format!("{worn}\n0\n3\n")), "refused=2\n");
+    assert_eq!(run(MONTH, format!("{worn}\n")), "stores=1\nrefused=1\ncells=0\nothers=0\n");
+    // With the row after it gone too, the journal ends before both.
+    medium[32 + 32 * slot_of(9, 4)..][..4].fill(0);
+    assert_eq!(run(LISTING, &medium), "cells=3\nslots=4\nhead=7\ncell=0\npart=40052\nrelease=1.10\n");
+}
+
 // ---- random histories
 
 /// Media of random histories that recovery accepts, each with its recovered copy.
@@ -439,8 +458,19 @@ fn counts_are_the_non_empty_cells() {
     assert!(month.refused == 0 && month.releases.len() == 64 && month.others > 0);
 }
 
+/// Whether the walk ends at a hole.
+fn has_hole(medium: &[u8]) -> bool {
+    let Some(Head { slots, h, .. }) = Head::of(medium) else {
+        return false;
+    };
+    let (rows, n) = (rows(medium, slots), Walker::new(medium).unwrap().last().map_or(h, |(n, _)| n).saturating_add(1));
+    n <= h.saturating_add(slots) && number_in(&rows[slot_of(n, slots)]) != n && held_after(rows, h, n).is_some()
+}
+
 #[test]
 fn the_media_drawn_are_accepted_and_refused() {
+    let holes = (0..600).map(|k| corpus::medium(1, k)).filter(|medium| has_hole(medium));
+    assert!(holes.map(|medium| assert_eq!(tool::recovered(&medium), Err(BROKEN_ROW))).count() > 5);
     let refusals: Vec<u32> = (0..600).filter_map(|k| tool::recovered(&corpus::medium(1, k)).err()).collect();
     let [ones, twos] = [1, 2].map(|number| refusals.iter().filter(|&&refusal| refusal == number).count());
     assert!(ones > 5 && twos > 5 && ones + twos == refusals.len() && refusals.len() < 150);

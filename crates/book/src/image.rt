@@ -32,6 +32,15 @@ pub fn copy(from: &[u8], to: &mut [u8]) {
     }
 }
 
+// The bytes from `at` on zeroed, to before `end`.
+pub fn wipe(s: &mut [u8], at: usize, end: usize) {
+    let mut i = at;
+    while i < end {
+        put(s, i, 0);
+        i += 1;
+    }
+}
+
 // The head is 0; the rows are 1 to C, the cells follow.
 fn unit(i: usize, slots: usize) -> usize {
     if i < 32 {

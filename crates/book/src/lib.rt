@@ -5,6 +5,7 @@
 //   0           the generator's last number
 //   1 to 8      tallies: what was tried, and what differed
 //   9           how many writes of this life are listed
+//   10, 11      tallies: rows lost before others, and last rows lost
 //   32 + cell   the table as the stored transactions left it
 //   64 + i      write i's cell
 //   192 + i     write i's value
@@ -34,6 +35,10 @@ pub const RESTORED: usize = 7;
 pub const DIFFERENCES: usize = 8;
 
 const USED: usize = 9;
+
+pub const HOLES: usize = 10;
+
+pub const ENDS: usize = 11;
 
 const TABLE: usize = 32;
 

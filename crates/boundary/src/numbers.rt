@@ -170,6 +170,7 @@ pub fn reason_number(reason: Reason) -> u32
         Reason::OldLeft => 7,
         Reason::NewLeft => 8,
         Reason::NotUpdate => 9,
+        Reason::Hole => 10,
     }
 }
 

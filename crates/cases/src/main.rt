@@ -1,4 +1,5 @@
-// The papers' cases 11 to 14, with the steps to the other side: a line for each call that is tried, held to what the papers say.
+// The papers' cases 11 to 14, with the steps to the other side, and holes: a line for each call that is tried, held to what the papers say.
+mod holes;
 mod numbers;
 mod sizes;
 
@@ -8,4 +9,5 @@ fn main() {
     sizes::case12();
     numbers::case13();
     numbers::case14();
+    holes::holes();
 }

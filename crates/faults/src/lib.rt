@@ -16,6 +16,7 @@ fn print_reason(reason: Reason) {
         Reason::OldLeft => say(b"old left in an end entry"),
         Reason::NewLeft => say(b"new left in an end entry"),
         Reason::NotUpdate => say(b"not an update"),
+        Reason::Hole => say(b"hole"),
     }
 }
 

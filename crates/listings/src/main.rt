@@ -167,6 +167,24 @@ fn damage(medium: &mut [u8; 176], at: usize, byte: u8) {
     poke(medium, at, byte);
 }
 
+// Case 5's medium with one byte damaged.
+fn damaged_five(name: &[u8], at: usize, byte: u8) {
+    let mut medium = [0u8; 176];
+    let mut current = [0u64; 2];
+    let mut first = [0u32; 2];
+    let mut last = [0u32; 2];
+    let mut waiting = [0u8; 128];
+    case_five(
+        &mut medium,
+        &mut current,
+        &mut first,
+        &mut last,
+        &mut waiting,
+    );
+    damage(&mut medium, at, byte);
+    show_small(name, &mut medium);
+}
+
 // Two cells, 176 bytes: what a release looks like, and the journal's ends.
 fn small_media() {
     let mut medium = [0u8; 176];
@@ -185,24 +203,9 @@ fn small_media() {
     );
     show_small(b"case 5", &mut medium);
     show_small(b"case 5 again", &mut medium);
-    case_five(
-        &mut medium,
-        &mut current,
-        &mut first,
-        &mut last,
-        &mut waiting,
-    );
-    damage(&mut medium, 100, 4);
-    show_small(b"kind 4", &mut medium);
-    case_five(
-        &mut medium,
-        &mut current,
-        &mut first,
-        &mut last,
-        &mut waiting,
-    );
-    damage(&mut medium, 96, 0);
-    show_small(b"number 0", &mut medium);
+    damaged_five(b"kind 4", 100, 4);
+    damaged_five(b"number 0", 96, 0);
+    damaged_five(b"hole", 32, 0);
     ends(
         &mut medium,
         &mut current,

@@ -129,7 +129,7 @@ fn note_done(asked: Asked, did: Did, book: &mut [u64]) {
     }
 }
 
-// A call made at most one store, where it says so, and none where it says so; at a store the plug is pulled.
+// A call made at most one store, where it says so, and none where it says so; at a store the plug is pulled, and each row is lost.
 fn judge(before: &[u8], medium: &[u8], did: Did, book: &mut [u64]) {
     let state = did.state;
     let cells = state.numbers.cells;
@@ -143,6 +143,7 @@ fn judge(before: &[u8], medium: &[u8], did: Did, book: &mut [u64]) {
     book::judge(book, image::within(before, medium, did.at, did.size));
     book::count(book, book::STORES);
     pull::pull(medium, cells, slots, book);
+    wear::wear(medium, cells, slots, state.numbers.h, state.numbers.f, book);
 }
 
 // The call's meaning noted, its stores judged, and the medium copied for the next.

@@ -93,6 +93,8 @@ fn tell_cuts(book: &[u64]) {
     line(b"cuts=", book::get(book, book::CUTS));
     line(b"recoveries=", book::get(book, book::RECOVERIES));
     line(b"restored=", book::get(book, book::RESTORED));
+    line(b"holes=", book::get(book, book::HOLES));
+    line(b"ends=", book::get(book, book::ENDS));
     line(b"differences=", book::get(book, book::DIFFERENCES));
 }
 

@@ -18,7 +18,7 @@ struct Ran {
 }
 
 // Recovery start on rubbish, of which only the current values are kept.
-fn restart(medium: &[u8], current: &mut [u64], slots: u32, rubbish: u32) -> Outcome {
+pub fn restart(medium: &[u8], current: &mut [u64], slots: u32, rubbish: u32) -> Outcome {
     let n = image::least(current.len(), 32);
     let w = 32 * image::least(slots as usize, 32);
     let mut first = [rubbish; 32];

@@ -10,7 +10,7 @@ use lib.Dec.{eqb}
 use lib.ListN.{length, set}
 use Rattle.scope.specs.Bytes.{pick, numberAt}
 use Rattle.scope.specs.Row.{Entry, update, commitEntry, abortEntry, readRow}
-use Rattle.scope.specs.Recovery.{rowsOf, firstly, entriesFrom, atMost, journal, undo, replay}
+use Rattle.scope.specs.Recovery.{rowsOf, firstly, anyHolds, entriesFrom, atMost, journal, undo, replay}
 use Rattle.journal.specs.Entries.{entryIn}
 use Rattle.replay.specs.Replay.{lastOf, undoEntry, undoFrom, replayEntry, openAfter, onward, replayFrom}
 use Rattle.replay.proofs.Turns.{most-fits}
@@ -91,14 +91,15 @@ module _ (row : ℕ → List ℕ) (cells : ℕ) where
   unfolding entriesFrom
   scanned zero n es p = ended zero n es p
   scanned (suc left) n es p =
-      go (eqb (numberAt 4 0 (row (n + 1))) (n + 1)) (readRow cells (n + 1) (row (n + 1))) refl (entriesFrom row cells left (n + 1)) (scanned left (n + 1)) p
+      go (eqb (numberAt 4 0 (row (n + 1))) (n + 1)) (anyHolds row left (n + 1)) (readRow cells (n + 1) (row (n + 1))) refl (entriesFrom row cells left (n + 1)) (scanned left (n + 1)) p
     where
-      go : (b : Bool) (o : Option Entry) → readRow cells (n + 1) (row (n + 1)) ≡ o → (rest : Option (List Entry))
-          → ((xs : List Entry) → rest ≡ some xs → Scanned left (n + 1) xs) → pick b (firstly o rest) (some []) ≡ some es → Scanned (suc left) n es
-      go false o u rest ih q = ended (suc left) n es q
-      go true none u rest ih q = none≢some q
-      go true (some x) u none ih q = none≢some q
-      go true (some x) u (some xs) ih q =
+      go : (b c : Bool) (o : Option Entry) → readRow cells (n + 1) (row (n + 1)) ≡ o → (rest : Option (List Entry))
+          → ((xs : List Entry) → rest ≡ some xs → Scanned left (n + 1) xs) → pick b (firstly o rest) (pick c none (some [])) ≡ some es → Scanned (suc left) n es
+      go false true o u rest ih q = none≢some q
+      go false false o u rest ih q = ended (suc left) n es q
+      go true c none u rest ih q = none≢some q
+      go true c (some x) u none ih q = none≢some q
+      go true c (some x) u (some xs) ih q =
           let z : x ∷ xs ≡ es = cc in
           let f = ih xs refl in
           subst (Scanned (suc left) n) z (record { holding = (u, f .holding); few = omega (arith, f .few) })

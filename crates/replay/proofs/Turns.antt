@@ -11,8 +11,8 @@ use denote.Enum.Declared.{tagOf}
 use lib.Dec.{leb}
 use lib.ListN.{length, set}
 use Rattle.scope.specs.Bytes.{pick, maxNo, numberAt}
-use Rattle.scope.specs.Row.{Entry, update, commitEntry, abortEntry, isUpdate, Fault, faultless, faultAt, wrongEntry}
-use Rattle.scope.specs.Recovery.{rowsOf, also, entriesFrom, atMost, journal, faultFrom, journalFault}
+use Rattle.scope.specs.Row.{Entry, update, commitEntry, abortEntry, isUpdate, Fault, faultless, fault, faultAt, hole, wrongEntry}
+use Rattle.scope.specs.Recovery.{rowsOf, also, anyHolds, entriesFrom, atMost, journal, faultFrom, journalFault}
 use Rattle.row.specs.Row.{meaning, reasonOf}
 use Rattle.row.specs.declared.Row.{Row}
 use Rattle.row.specs.declared.Row.the-variants.{Holds, Wrong}
@@ -119,10 +119,40 @@ module _ (slots h : ℕ) where
       go true q = omega (arith, leb-true slots (4294967295 - h) q)
       go false q = omega arith
 
+-- the search for a later row that holds its number
+
+module _ (m : List ℕ) (slots : ℕ) (all : Bool) (n count : ℕ) (p : all ≡ anyHolds (rowsOf slots m) count n) where
+  pub holds-done : count ≤ 0 → false ≡ all
+  unfolding anyHolds
+  holds-done h = let z : count ≡ 0 = omega arith in sym (p ∙ rw z)
+
+  module _ (h : 0 < count) where
+    holds-suc : all ≡ anyHolds (rowsOf slots m) (suc (count - 1)) n
+    holds-suc = let z : count ≡ suc (count - 1) = omega arith in p ∙ ap (λ k. anyHolds (rowsOf slots m) k n) z
+
+    pub holds-found : numberAt 4 0 (rowsOf slots m (n + 1)) ≡ n + 1 → true ≡ all
+    unfolding anyHolds
+    holds-found q = sym (holds-suc ∙ simp (eq-eqb _ _ q))
+
+    pub holds-again : (numberAt 4 0 (rowsOf slots m (n + 1)) ≡ n + 1 → ⊥) → all ≡ anyHolds (rowsOf slots m) (count - 1) (n + 1)
+    unfolding anyHolds
+    holds-again q = holds-suc ∙ simp (ne-eqb _ _ q)
+
+module _ (b : Bool) (n : ℕ) where
+  pub a-hole : (k : ℕ) → k ≡ n + 1 → b ≡ true → (none ≡ pick b none (some n)) × (fault hole k ≡ pick b (fault hole (n + 1)) faultless)
+  a-hole k e h = (simp h, simp (h, e))
+
+  pub an-end : b ≡ false → (some n ≡ pick b none (some n)) × (faultless ≡ pick b (fault hole (n + 1)) faultless)
+  an-end h = (simp h, simp h)
+
 -- the scan
 
 last-empty : (n : ℕ) → lastOf n (some []) ≡ some n
 last-empty n = let z : n + 0 ≡ n = omega arith in ap some z
+
+last-or-hole : (n : ℕ) (b : Bool) → lastOf n (pick b none (some [])) ≡ pick b none (some n)
+last-or-hole n true = refl
+last-or-hole n false = last-empty n
 
 last-also : (n : ℕ) (x : Entry) (o : Option (List Entry)) → lastOf n (also x o) ≡ lastOf (n + 1) o
 last-also n x none = refl
@@ -143,9 +173,10 @@ module _ (m : List ℕ) (slots cells : ℕ) where
       scan-suc : all ≡ lastOf n (entriesFrom (rowsOf slots m) cells (suc (left - 1)) n)
       scan-suc = let z : left ≡ suc (left - 1) = omega arith in p ∙ ap (λ k. lastOf n (entriesFrom (rowsOf slots m) cells k n)) z
 
-      pub scan-stop : (numberAt 4 0 (rowsOf slots m (n + 1)) ≡ n + 1 → ⊥) → some n ≡ all
+      pub scan-stop : (numberAt 4 0 (rowsOf slots m (n + 1)) ≡ n + 1 → ⊥) → (u : Option ℕ)
+          → u ≡ pick (anyHolds (rowsOf slots m) (left - 1) (n + 1)) none (some n) → u ≡ all
       unfolding entriesFrom
-      scan-stop q = sym (scan-suc ∙ simp (ne-eqb _ _ q) (last-empty n))
+      scan-stop q u e = e ∙ sym (scan-suc ∙ simp (ne-eqb _ _ q) (last-or-hole n (anyHolds (rowsOf slots m) (left - 1) (n + 1))))
 
       module _ (q : numberAt 4 0 (rowsOf slots m (n + 1)) ≡ n + 1) where
         pub scan-bad : none ≡ entryIn m 32 slots cells (n + 1) → none ≡ all
@@ -171,9 +202,10 @@ module _ (m : List ℕ) (slots cells : ℕ) where
       fault-suc : all ≡ faultFrom (rowsOf slots m) cells (suc (left - 1)) n
       fault-suc = let z : left ≡ suc (left - 1) = omega arith in p ∙ ap (λ k. faultFrom (rowsOf slots m) cells k n) z
 
-      pub fault-stop : (numberAt 4 0 (rowsOf slots m (n + 1)) ≡ n + 1 → ⊥) → faultless ≡ all
+      pub fault-stop : (numberAt 4 0 (rowsOf slots m (n + 1)) ≡ n + 1 → ⊥) → (w : Fault)
+          → w ≡ pick (anyHolds (rowsOf slots m) (left - 1) (n + 1)) (fault hole (n + 1)) faultless → w ≡ all
       unfolding faultFrom
-      fault-stop q = sym (fault-suc ∙ simp (ne-eqb _ _ q))
+      fault-stop q w e = e ∙ sym (fault-suc ∙ simp (ne-eqb _ _ q))
 
       module _ (q : numberAt 4 0 (rowsOf slots m (n + 1)) ≡ n + 1) (r : Row) (e : reasonOf r ≡ wrongEntry cells (n + 1) (rowsOf slots m (n + 1))) where
         fault-on : all ≡ faultAt (n + 1) (reasonOf r) (faultFrom (rowsOf slots m) cells (left - 1) (n + 1))

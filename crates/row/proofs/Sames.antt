@@ -1,13 +1,13 @@
 -- Two answers of reading a row that its contract permits are equal: what an answer means has an inverse. So has what is told of rows.
 use mathlib.Core.Path.{_≡_, refl, sym, ap, _∙_}
 use mathlib.Core.Option.{Option, none, some}
-use Rattle.scope.specs.Row.{Entry, update, commitEntry, abortEntry, Reason, tooShort, otherNumber, unknownKind, fillerNotZero, cellOutOfRange, cellLeft, oldLeft, newLeft, notUpdate, Fault, faultless, fault}
+use Rattle.scope.specs.Row.{Entry, update, commitEntry, abortEntry, Reason, tooShort, otherNumber, unknownKind, fillerNotZero, cellOutOfRange, cellLeft, oldLeft, newLeft, notUpdate, hole, Fault, faultless, fault}
 use Rattle.row.specs.Row.{meaning, reason, reasonOf, faultOf}
 use Rattle.row.specs.declared.Row.{Row}
 use Rattle.row.specs.declared.Row.the-variants.{Holds, Wrong}
 use Rattle.row.specs.declared.Entry.the-variants.{Update, Commit, Abort}
 use Rattle.row.specs.declared.Reason as reasons
-use Rattle.row.specs.declared.Reason.the-variants.{TooShort, OtherNumber, UnknownKind, FillerNotZero, CellOutOfRange, CellLeft, OldLeft, NewLeft, NotUpdate}
+use Rattle.row.specs.declared.Reason.the-variants.{TooShort, OtherNumber, UnknownKind, FillerNotZero, CellOutOfRange, CellLeft, OldLeft, NewLeft, NotUpdate, Hole}
 use Rattle.row.specs.declared.Fault as faults
 use Rattle.row.specs.declared.Fault.the-variants.{None, At}
 
@@ -21,6 +21,7 @@ reason-back cellLeft = CellLeft
 reason-back oldLeft = OldLeft
 reason-back newLeft = NewLeft
 reason-back notUpdate = NotUpdate
+reason-back hole = Hole
 
 reason-there : (x : reasons.Reason) → reason-back (reason x) ≡ x
 unfolding reason-back
@@ -33,6 +34,7 @@ reason-there CellLeft = refl
 reason-there OldLeft = refl
 reason-there NewLeft = refl
 reason-there NotUpdate = refl
+reason-there Hole = refl
 
 row-back : Option Entry → Option Reason → Row
 row-back (some (update c old new)) x = Holds (Update c old new)

@@ -5,13 +5,13 @@ use mathlib.Core.List.{List, [], _∷_}
 use mathlib.Core.Option.{Option, none, some}
 use lib.Dec.{eqb}
 use Rattle.scope.specs.Bytes.{pick, numberAt}
-use Rattle.scope.specs.Row.{Entry, update, commitEntry, abortEntry, Reason, tooShort, otherNumber, unknownKind, fillerNotZero, cellOutOfRange, cellLeft, oldLeft, newLeft, notUpdate, firstReason, Fault, faultless, fault}
+use Rattle.scope.specs.Row.{Entry, update, commitEntry, abortEntry, Reason, tooShort, otherNumber, unknownKind, fillerNotZero, cellOutOfRange, cellLeft, oldLeft, newLeft, notUpdate, hole, firstReason, Fault, faultless, fault}
 use Rattle.row.specs.declared.Row.{Row}
 use Rattle.row.specs.declared.Row.the-variants.{Holds, Wrong}
 use Rattle.row.specs.declared.Entry as code
 use Rattle.row.specs.declared.Entry.the-variants.{Update, Commit, Abort}
 use Rattle.row.specs.declared.Reason as reasons
-use Rattle.row.specs.declared.Reason.the-variants.{TooShort, OtherNumber, UnknownKind, FillerNotZero, CellOutOfRange, CellLeft, OldLeft, NewLeft, NotUpdate}
+use Rattle.row.specs.declared.Reason.the-variants.{TooShort, OtherNumber, UnknownKind, FillerNotZero, CellOutOfRange, CellLeft, OldLeft, NewLeft, NotUpdate, Hole}
 use Rattle.row.specs.declared.Fault as faults
 use Rattle.row.specs.declared.Fault.the-variants.{None, At}
 
@@ -30,6 +30,7 @@ reason CellLeft = cellLeft
 reason OldLeft = oldLeft
 reason NewLeft = newLeft
 reason NotUpdate = notUpdate
+reason Hole = hole
 
 -- the entry, or nothing
 abbrev pub meaning : Row → Option Entry

@@ -24,7 +24,8 @@ pub enum Entry {
     Abort,
 }
 
-// What is wrong with a row, in the order in which it is judged. The last is asked of the open transaction's rows alone.
+// What is wrong with a row, in the order in which it is judged. "Not an update" is asked of the open transaction's rows alone; a hole is a
+// row that does not hold its number where a later one does, and recovery's alone.
 pub enum Reason {
     TooShort,
     OtherNumber,
@@ -35,6 +36,7 @@ pub enum Reason {
     OldLeft,
     NewLeft,
     NotUpdate,
+    Hole,
 }
 
 // What a row reads as: the entry, or the first thing wrong.

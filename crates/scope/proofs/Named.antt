@@ -10,9 +10,9 @@ use native.Mathlib.Omega.{arith}
 use borrow.Author.Tests.{eqb-true, eqb-false, not-true}
 use lib.Dec.{ltb, eqb}
 use Rattle.scope.specs.Bytes.{pick, maxNo, bytesOf, numberOf, numberAt, put}
-use Rattle.scope.specs.Row.{Entry, rowBytes, entryOf, readRow, isEntry, Reason, unknownKind, fillerNotZero, notUpdate, rowTests, wrongEntry, wrongUpdate, Fault, faultless, fault, faultAt, lowestFault}
+use Rattle.scope.specs.Row.{Entry, rowBytes, entryOf, readRow, isEntry, Reason, unknownKind, fillerNotZero, notUpdate, hole, rowTests, wrongEntry, wrongUpdate, Fault, faultless, fault, faultAt, lowestFault}
 use Rattle.scope.specs.Keeper.{Keeper, isRun, noState, inRange, mediumLength, phaseOk, sound, rowAt, cellAt, waitingRow, mediumRow, headBytes, headOk, cellsOf, withState, withMedium, withWaiting, madeTo, storedNext, droppedTo, firstMark, assign, append, storeCell, storeHead}
-use Rattle.scope.specs.Recovery.{rowsOf, firstly, entriesFrom, atMost, journal, faultFrom, journalFault, undo, replay, tableOf, differing, allUpdates, restore, rollback}
+use Rattle.scope.specs.Recovery.{rowsOf, firstly, anyHolds, entriesFrom, atMost, journal, faultFrom, journalFault, undo, replay, tableOf, differing, allUpdates, restore, rollback}
 use Rattle.scope.specs.Refusals.{Call, Format, RecoveryStart, RecoveryStep, Begin, Commit, Abort, Force, TableView, Read, WriteBack, Cut, Look, Write, lent, lentStart, unfit, notUpdates, full, usedUp, anyFirst, isNone, tests, firstNo, refusal, openFault, badRow, told}
 use Rattle.scope.specs.Calls.{stepAt, rolledBack, cleaned, act, performed}
 use Rattle.scope.specs.History.{call, powerLoss, happen, after, reached}
@@ -159,56 +159,77 @@ module _ (wrong : ℕ → Option Reason) (count n : ℕ) where
   pub all-faultless : ((i : ℕ) → n < i → i ≤ n + count → wrong i ≡ none) → lowestFault wrong count n ≡ faultless
   all-faultless g = lowest-is wrong count n ∙ faultless-scan always wrong count n (λ i a b c. g i a b)
 
--- THE SAME OF A STORED JOURNAL, as far as its rows hold their numbers
+-- THE SAME OF A STORED JOURNAL: a row is reached where it holds its number, or a later one does; one that does not hold its number is then a hole
 abbrev pub holdsNo : (ℕ → List ℕ) → ℕ → Bool
 holdsNo row n = eqb (numberAt 4 0 (row n)) n
 
-abbrev pub wrongIn : (ℕ → List ℕ) → ℕ → ℕ → Option Reason
-wrongIn row cells n = wrongEntry cells n (row n)
+-- of the rows after n, up to the last that may count
+abbrev pub laterHolds : (ℕ → List ℕ) → ℕ → ℕ → Bool
+laterHolds row end n = anyHolds row (end - n) n
 
-from-is : (row : ℕ → List ℕ) (cells left n : ℕ) → faultFrom row cells left n ≡ scan (holdsNo row) (wrongIn row cells) left n
+abbrev pub comesTo : (ℕ → List ℕ) → ℕ → ℕ → Bool
+comesTo row end n = holdsNo row n || laterHolds row end n
+
+abbrev pub wrongIn : (ℕ → List ℕ) → ℕ → ℕ → Option Reason
+wrongIn row cells n = pick (holdsNo row n) (wrongEntry cells n (row n)) (some hole)
+
+from-is : (row : ℕ → List ℕ) (cells left n end : ℕ) → end ≡ n + left → faultFrom row cells left n ≡ scan (comesTo row end) (wrongIn row cells) left n
 unfolding faultFrom scan
-from-is row cells zero n = refl
-from-is row cells (suc left) n =
-    ap (λ f. pick (holdsNo row (n + 1)) (faultAt (n + 1) (wrongIn row cells (n + 1)) f) faultless) (from-is row cells left (n + 1))
+from-is row cells zero n end e = refl
+from-is row cells (suc left) n end e =
+    let z : left ≡ end - (n + 1) = omega arith in
+    go (holdsNo row (n + 1)) (anyHolds row left (n + 1)) (wrongEntry cells (n + 1) (row (n + 1))) (from-is row cells left (n + 1) end (omega arith))
+    ∙ ap (λ c. pick (holdsNo row (n + 1) || anyHolds row c (n + 1)) (faultAt (n + 1) (wrongIn row cells (n + 1)) (scan (comesTo row end) (wrongIn row cells) left (n + 1))) faultless) z
+  where
+    go : (b c : Bool) (w : Option Reason) → faultFrom row cells left (n + 1) ≡ scan (comesTo row end) (wrongIn row cells) left (n + 1)
+        → pick b (faultAt (n + 1) w (faultFrom row cells left (n + 1))) (pick c (fault hole (n + 1)) faultless)
+        ≡ pick (b || c) (faultAt (n + 1) (pick b w (some hole)) (scan (comesTo row end) (wrongIn row cells) left (n + 1))) faultless
+    go true c w ih = ap (faultAt (n + 1) w) ih
+    go false true w ih = refl
+    go false false w ih = refl
+
+-- the last number that may count
+abbrev pub lastNo : ℕ → ℕ → ℕ
+lastNo slots h = h + atMost slots h
 
 module _ (cells slots h : ℕ) (m : List ℕ) where
-  journal-is : journalFault cells slots h m ≡ scan (holdsNo (rowsOf slots m)) (wrongIn (rowsOf slots m) cells) (atMost slots h) h
+  journal-is : journalFault cells slots h m ≡ scan (comesTo (rowsOf slots m) (lastNo slots h)) (wrongIn (rowsOf slots m) cells) (atMost slots h) h
   unfolding journalFault
-  journal-is = from-is (rowsOf slots m) cells (atMost slots h) h
+  journal-is = from-is (rowsOf slots m) cells (atMost slots h) h (lastNo slots h) refl
 
   pub journalFault-lowest : (x : Reason) (n : ℕ) → journalFault cells slots h m ≡ fault x n
-      → LowestBad (holdsNo (rowsOf slots m)) (wrongIn (rowsOf slots m) cells) (atMost slots h) h x n
-  journalFault-lowest x n e = scan-lowest (holdsNo (rowsOf slots m)) (wrongIn (rowsOf slots m) cells) (atMost slots h) h x n (sym journal-is ∙ e)
+      → LowestBad (comesTo (rowsOf slots m) (lastNo slots h)) (wrongIn (rowsOf slots m) cells) (atMost slots h) h x n
+  journalFault-lowest x n e = scan-lowest (comesTo (rowsOf slots m) (lastNo slots h)) (wrongIn (rowsOf slots m) cells) (atMost slots h) h x n (sym journal-is ∙ e)
 
   pub lowest-journalFault : (x : Reason) (n : ℕ)
-      → LowestBad (holdsNo (rowsOf slots m)) (wrongIn (rowsOf slots m) cells) (atMost slots h) h x n → journalFault cells slots h m ≡ fault x n
-  lowest-journalFault x n l = journal-is ∙ lowest-scan (holdsNo (rowsOf slots m)) (wrongIn (rowsOf slots m) cells) (atMost slots h) h x n l
+      → LowestBad (comesTo (rowsOf slots m) (lastNo slots h)) (wrongIn (rowsOf slots m) cells) (atMost slots h) h x n → journalFault cells slots h m ≡ fault x n
+  lowest-journalFault x n l = journal-is ∙ lowest-scan (comesTo (rowsOf slots m) (lastNo slots h)) (wrongIn (rowsOf slots m) cells) (atMost slots h) h x n l
 
   pub journalFault-faultless : journalFault cells slots h m ≡ faultless
-      → NoneBad (holdsNo (rowsOf slots m)) (wrongIn (rowsOf slots m) cells) (atMost slots h) h
-  journalFault-faultless e = scan-faultless (holdsNo (rowsOf slots m)) (wrongIn (rowsOf slots m) cells) (atMost slots h) h (sym journal-is ∙ e)
+      → NoneBad (comesTo (rowsOf slots m) (lastNo slots h)) (wrongIn (rowsOf slots m) cells) (atMost slots h) h
+  journalFault-faultless e = scan-faultless (comesTo (rowsOf slots m) (lastNo slots h)) (wrongIn (rowsOf slots m) cells) (atMost slots h) h (sym journal-is ∙ e)
 
-  pub faultless-journalFault : NoneBad (holdsNo (rowsOf slots m)) (wrongIn (rowsOf slots m) cells) (atMost slots h) h
+  pub faultless-journalFault : NoneBad (comesTo (rowsOf slots m) (lastNo slots h)) (wrongIn (rowsOf slots m) cells) (atMost slots h) h
       → journalFault cells slots h m ≡ faultless
-  faultless-journalFault g = journal-is ∙ faultless-scan (holdsNo (rowsOf slots m)) (wrongIn (rowsOf slots m) cells) (atMost slots h) h g
+  faultless-journalFault g = journal-is ∙ faultless-scan (comesTo (rowsOf slots m) (lastNo slots h)) (wrongIn (rowsOf slots m) cells) (atMost slots h) h g
 
 -- A JOURNAL DOES NOT READ EXACTLY WHEN IT HAS A FAULT
 entries-judged : (row : ℕ → List ℕ) (cells left n : ℕ) → isNone (entriesFrom row cells left n) ≡ isFault (faultFrom row cells left n)
 unfolding entriesFrom faultFrom
 entries-judged row cells zero n = refl
 entries-judged row cells (suc left) n =
-    go (holdsNo row (n + 1)) (readRow cells (n + 1) (row (n + 1))) (wrongIn row cells (n + 1)) (entry-or-wrong cells (n + 1) (row (n + 1)))
+    go (holdsNo row (n + 1)) (anyHolds row left (n + 1)) (readRow cells (n + 1) (row (n + 1))) (wrongEntry cells (n + 1) (row (n + 1))) (entry-or-wrong cells (n + 1) (row (n + 1)))
     (entriesFrom row cells left (n + 1)) (faultFrom row cells left (n + 1)) (entries-judged row cells left (n + 1))
   where
-    go : (b : Bool) (o : Option Entry) (w : Option Reason) → isEntry o ≡ isNoReason w → (es : Option (List Entry)) (f : Fault) → isNone es ≡ isFault f
-        → isNone (pick b (firstly o es) (some [])) ≡ isFault (pick b (faultAt (n + 1) w f) faultless)
-    go false o w h es f ih = refl
-    go true none none h es f ih = absurd (false≢true h)
-    go true none (some x) h es f ih = refl
-    go true (some e) (some x) h es f ih = absurd (true≢false h)
-    go true (some e) none h none f ih = ih
-    go true (some e) none h (some es) f ih = ih
+    go : (b c : Bool) (o : Option Entry) (w : Option Reason) → isEntry o ≡ isNoReason w → (es : Option (List Entry)) (f : Fault) → isNone es ≡ isFault f
+        → isNone (pick b (firstly o es) (pick c none (some []))) ≡ isFault (pick b (faultAt (n + 1) w f) (pick c (fault hole (n + 1)) faultless))
+    go false true o w h es f ih = refl
+    go false false o w h es f ih = refl
+    go true c none none h es f ih = absurd (false≢true h)
+    go true c none (some x) h es f ih = refl
+    go true c (some e) (some x) h es f ih = absurd (true≢false h)
+    go true c (some e) none h none f ih = ih
+    go true c (some e) none h (some es) f ih = ih
 
 pub journal-judged : (cells slots h : ℕ) (m : List ℕ) → isNone (journal cells slots h m) ≡ isFault (journalFault cells slots h m)
 unfolding journal journalFault
@@ -318,7 +339,7 @@ one-bad n (some y) x m e = (cc, cc)
 module _ (k : Keeper) (x : Reason) (m : ℕ) where
   pub start-tells : told RecoveryStart k ≡ fault x m
       → (let b = k .medium in let row = rowsOf (numberAt 4 4 b) b in
-      LowestBad (holdsNo row) (wrongIn row (numberAt 4 0 b)) (atMost (numberAt 4 4 b) (numberAt 4 8 b)) (numberAt 4 8 b) x m)
+      LowestBad (comesTo row (lastNo (numberAt 4 4 b) (numberAt 4 8 b))) (wrongIn row (numberAt 4 0 b)) (atMost (numberAt 4 4 b) (numberAt 4 8 b)) (numberAt 4 8 b) x m)
   unfolding badRow
   start-tells e =
       let b = k .medium in
@@ -350,11 +371,11 @@ module _ (k : Keeper) (x : Reason) (m : ℕ) where
   cut-tells p e = one-bad p (wrongEntry (k .state .cells) p (mediumRow k p)) x m (told-bad (Cut p) k x m e)
 
 -- WHAT IS TOLD OF DAMAGED ROWS, N = 2 and C = 4. A history, and then other bytes at places of the medium or of the waiting rows
-abbrev damaged : List (ℕ × ℕ) → List ℕ → List ℕ
+abbrev pub damaged : List (ℕ × ℕ) → List ℕ → List ℕ
 damaged [] m = m
 damaged (x ∷ xs) m = damaged xs (put m (x .0) (x .1 ∷ []))
 
-abbrev worn : List (ℕ × ℕ) → Keeper → Keeper
+abbrev pub worn : List (ℕ × ℕ) → Keeper → Keeper
 worn xs k = withMedium (damaged xs (k .medium)) k
 
 abbrev spoilt : List (ℕ × ℕ) → Keeper → Keeper
@@ -429,5 +450,5 @@ tellings =
     ∷ []
 
 pub tellings-right : map heard tellings ≡ map expected tellings
-unfolding maxNo bytesOf numberOf numberAt put rowBytes entryOf readRow rowTests wrongEntry wrongUpdate lowestFault inRange mediumLength phaseOk sound rowAt cellAt waitingRow mediumRow headBytes headOk cellsOf noState withState withMedium withWaiting madeTo storedNext droppedTo firstMark assign append storeCell storeHead entriesFrom atMost journal faultFrom journalFault undo replay tableOf differing allUpdates restore rollback lent lentStart unfit notUpdates full usedUp anyFirst tests refusal openFault badRow told performed stepAt rolledBack cleaned act happen after
+unfolding maxNo bytesOf numberOf numberAt put rowBytes entryOf readRow rowTests wrongEntry wrongUpdate lowestFault inRange mediumLength phaseOk sound rowAt cellAt waitingRow mediumRow headBytes headOk cellsOf noState withState withMedium withWaiting madeTo storedNext droppedTo firstMark assign append storeCell storeHead entriesFrom anyHolds atMost journal faultFrom journalFault undo replay tableOf differing allUpdates restore rollback lent lentStart unfit notUpdates full usedUp anyFirst tests refusal openFault badRow told performed stepAt rolledBack cleaned act happen after
 tellings-right = refl

@@ -11,7 +11,7 @@ use borrow.Author.Tests.{eqb-true, leb-true, leb-false, ltb-true, ltb-false, le-
 use lib.Dec.{ltb, leb, eqb}
 use lib.ListN.{length, take}
 use Rattle.scope.specs.Bytes.{pick, numberOf, numberAt, put}
-use Rattle.scope.specs.Row.{Entry, update, commitEntry, abortEntry, entryOf, readRow, isUpdate, isEntry, Reason, tooShort, otherNumber, unknownKind, fillerNotZero, cellOutOfRange, cellLeft, oldLeft, newLeft, notUpdate, rowTests, firstReason, wrongEntry, wrongUpdate}
+use Rattle.scope.specs.Row.{Entry, update, commitEntry, abortEntry, entryOf, readRow, isUpdate, isEntry, Reason, tooShort, otherNumber, unknownKind, fillerNotZero, cellOutOfRange, cellLeft, oldLeft, newLeft, notUpdate, hole, rowTests, firstReason, wrongEntry, wrongUpdate}
 
 -- no test holds
 abbrev pub NothingWrong : List (Bool × Reason) → Type 0
@@ -240,6 +240,7 @@ isNotUpdate (some cellLeft) = false
 isNotUpdate (some oldLeft) = false
 isNotUpdate (some newLeft) = false
 isNotUpdate (some notUpdate) = true
+isNotUpdate (some hole) = false
 
 abbrev AllOther : List (Bool × Reason) → Type 0
 AllOther [] = Unit {0}

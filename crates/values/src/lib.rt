@@ -2,26 +2,47 @@
 // count, and these are replayed over the table.
 ghost use mathlib.Core.Path.{_≡_};
 ghost use mathlib.Core.Bool.{true};
+ghost use Prim.Native.Nat.{_≤_};
 ghost use lib.ListN.{replicate};
 ghost use Rattle.scope.specs.Bytes.{numberAt};
 ghost use Rattle.scope.specs.Keeper.{headOk};
 ghost use Rattle.scope.specs.Recovery.{journal};
 ghost use Rattle.replay.specs.Replay.{lastOf};
 ghost use Rattle.recovered.specs.Recovered.{headNumber};
-ghost use Rattle.values.specs.Values.{Values, upto};
+ghost use Rattle.values.specs.Values.{Values, upto, endAfter};
 use medium::head::head_ok;
 use medium::table::load;
 use replay::entries::replay;
+use replay::scan::any_holds;
+use replay::scan::at_most;
 use walker::Seen;
 use walker::after;
 
-// How a walk ends: after its last entry, or at a row that does not read.
+// How a walk ends: after its last entry, or at a row that does not read or is a hole.
 enum Ended {
     Upto(u32),
     Malformed,
 }
 
-// The last entry that a walk from h meets, or that it meets a row that does not read.
+// How a walk that meets no entry after n ends: with n, or at a hole, where a later row holds its number.
+fn end_after(medium: &[u8], h: u32, n: u32) -> Ended
+    requires { ⌜ (h ≡ numberAt 4 8 (now medium)) × ((headOk (now medium) ≡ true) × (h ≤ n)) ⌝ }
+    ensures { λ r. ⌜ upto r ≡ endAfter (now (medium .entry)) n ⌝ }
+{
+    let slots = number::get4(medium, 4);
+    let most = at_most(slots, h);
+    let met = n - h;
+    if most <= met {
+        return Ended::Upto(n);
+    }
+    let later = any_holds(medium, slots, n + 1, most - met - 1);
+    if later {
+        return Ended::Malformed;
+    }
+    Ended::Upto(n)
+}
+
+// The last entry that a walk from h meets, or that it meets a row that does not read or a hole.
 fn last_met(medium: &[u8], h: u32) -> Ended
     requires { ⌜ (h ≡ numberAt 4 8 (now medium)) × (headOk (now medium) ≡ true) ⌝ }
     ensures { λ r. ⌜ upto r ≡ lastOf h (journal (numberAt 4 0 (now (medium .entry))) (numberAt 4 4 (now (medium .entry))) h (now (medium .entry))) ⌝ }
@@ -37,7 +58,7 @@ fn last_met(medium: &[u8], h: u32) -> Ended
                 return Ended::Malformed;
             }
             Seen::End => {
-                return Ended::Upto(n);
+                return end_after(medium, h, n);
             }
         }
     }

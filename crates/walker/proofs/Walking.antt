@@ -10,7 +10,7 @@ use lib.Dec.{ltb, leb, eqb}
 use Rattle.scope.specs.Bytes.{pick, maxNo, numberAt}
 use Rattle.scope.specs.Row.{Entry, readRow}
 use Rattle.scope.specs.Keeper.{headOk}
-use Rattle.scope.specs.Recovery.{rowsOf, firstly, entriesFrom, atMost, journal}
+use Rattle.scope.specs.Recovery.{rowsOf, firstly, anyHolds, entriesFrom, atMost, journal}
 use Rattle.journal.specs.Entries.{entryIn}
 use Rattle.state.proofs.Facts.{and-left, and-right}
 use Rattle.walker.specs.Walk.{Met, holds, malformed, end, counts, asRead, nextIn, nextOn, followed, walkFrom, walk}
@@ -133,16 +133,17 @@ module _ (m : List ℕ) (ok : headOk m ≡ true) where
   walk-from zero n es p q e = cc
   walk-from (suc left) n es p q e =
       ap (λ x. followed x (walkFrom m left (n + 1))) (next-counts n p (omega arith))
-      ∙ go (eqb (numberAt 4 0 (rowsOf C m (n + 1))) (n + 1)) (readRow N (n + 1) (rowsOf C m (n + 1))) (entriesFrom (rowsOf C m) N left (n + 1)) refl e
+      ∙ go (eqb (numberAt 4 0 (rowsOf C m (n + 1))) (n + 1)) (anyHolds (rowsOf C m) left (n + 1)) (readRow N (n + 1) (rowsOf C m (n + 1))) (entriesFrom (rowsOf C m) N left (n + 1)) refl e
       (λ xs. walk-from left (n + 1) xs (omega arith) (omega arith))
     where
-      go : (b : Bool) (o : Option Entry) (r : Option (List Entry)) → entriesFrom (rowsOf C m) N left (n + 1) ≡ r → pick b (firstly o r) (some []) ≡ some es
+      go : (b c : Bool) (o : Option Entry) (r : Option (List Entry)) → entriesFrom (rowsOf C m) N left (n + 1) ≡ r → pick b (firstly o r) (pick c none (some [])) ≡ some es
           → ((xs : List Entry) → entriesFrom (rowsOf C m) N left (n + 1) ≡ some xs → walkFrom m left (n + 1) ≡ xs)
           → followed (pick b (asRead (n + 1) o) end) (walkFrom m left (n + 1)) ≡ es
-      go false o r z g ih = cc
-      go true none r z g ih = let w : _≡_ {A = ℕ} 0 1 = cc in absurd (omega arith)
-      go true (some x) none z g ih = let w : _≡_ {A = ℕ} 0 1 = cc in absurd (omega arith)
-      go true (some x) (some xs) z g ih = let w : x ∷ xs ≡ es = cc in ap (λ l. x ∷ l) (ih xs z) ∙ w
+      go false true o r z g ih = let w : _≡_ {A = ℕ} 0 1 = cc in absurd (omega arith)
+      go false false o r z g ih = cc
+      go true c none r z g ih = let w : _≡_ {A = ℕ} 0 1 = cc in absurd (omega arith)
+      go true c (some x) none z g ih = let w : _≡_ {A = ℕ} 0 1 = cc in absurd (omega arith)
+      go true c (some x) (some xs) z g ih = let w : x ∷ xs ≡ es = cc in ap (λ l. x ∷ l) (ih xs z) ∙ w
 
   -- A WALK FROM h MEETS THE STORED JOURNAL
   pub walk-journal : (es : List Entry) → journal N C h m ≡ some es → walk m ≡ es

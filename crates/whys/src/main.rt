@@ -103,6 +103,18 @@ fn no_cell(medium: &[u8]) {
     tell(b"above 64 bits", medium, b"18446744073709551616");
 }
 
+// Case 5's medium with its first row lost, and with its last row lost.
+fn worn() {
+    let first = update(0, 0, A);
+    let second = update(0, A, B);
+    let mut hole = made(0, 3, first, Entry::Commit, second, first);
+    poke(&mut hole, 32, 0);
+    tell(b"a hole", &hole, b"0");
+    let mut ended = made(0, 3, first, Entry::Commit, second, first);
+    poke(&mut ended, 96, 0);
+    tell(b"the last row lost", &ended, b"0");
+}
+
 // Which refusal comes first.
 fn damaged(medium: &mut [u8]) {
     poke(medium, 68, 4);
@@ -118,6 +130,7 @@ fn main() {
     kept();
     twice();
     later();
+    worn();
     let first = update(0, 0, A);
     let mut medium = made(0, 2, first, Entry::Commit, first, first);
     no_cell(&medium);

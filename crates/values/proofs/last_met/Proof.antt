@@ -37,11 +37,18 @@ returns c =
     last-malformed _ (c .before .before .before .before .before .pre .1) _ _ (c .before .before .before .loop .inv .0) (c .before .before .before .loop .inv .1) _ (c .before .before .after .ensures) (c .enum-told .given .1)
     ∙ sym (ap (λ x. lastOf x (journal (numberAt 4 0 m) (numberAt 4 4 m) x m)) (c .before .before .before .before .before .pre .0))
 
+end-after-requires : tie.Need-end-after-requires Inv-loop μ-loop
+end-after-requires c κs =
+    let p5 = c .before .before .before .before .before in
+    (p5 .pre .0, (p5 .pre .1, omega (arith, c .before .before .before .loop .inv .0, p5 .pre .0)))
+
 returns-2 : tie.Need-returns-2 Inv-loop μ-loop
 returns-2 c =
-    let m = c .before .before .before .before .before .args .medium .now in
-    last-end _ (c .before .before .before .before .before .pre .1) _ _ (c .before .before .before .loop .inv .0) (c .before .before .before .loop .inv .1) _ (c .before .before .after .ensures) (c .enum-told2 .given .1)
-    ∙ sym (ap (λ x. lastOf x (journal (numberAt 4 0 m) (numberAt 4 4 m) x m)) (c .before .before .before .before .before .pre .0))
+    let p4 = c .before .before .before .before in
+    let p6 = p4 .before .before in
+    let m = p6 .args .medium .now in
+    last-end _ (p6 .pre .1) _ _ (p4 .loop .inv .0) (p4 .loop .inv .1) _ (c .before .before .before .after .ensures) (c .before .enum-told2 .given .1) _ (c .end-after .ensures)
+    ∙ sym (ap (λ x. lastOf x (journal (numberAt 4 0 m) (numberAt 4 4 m) x m)) (p6 .pre .0))
 
 pub last-met-spec : {M : Type 1} → statement M
 last-met-spec =
@@ -57,4 +64,5 @@ last-met-spec =
     (λ c. search needs)
     returns
     (λ c. search needs)
+    end-after-requires
     returns-2)

@@ -30,9 +30,11 @@ loop-holds c =
 
 returns : tie.Need-returns Inv-loop μ-loop
 returns c =
-    let i = c .before .before .before .loop .inv .1 in
-    let number = number-from _ _ _ _ (i .1 .1 .0) _ (c .before .get4 .ensures) in
-    (scan-stop _ _ _ _ _ _ (i .0) (omega arith) (λ z. omega (arith, number)), fault-stop _ _ _ _ _ _ (i .1 .0) (omega arith) (λ z. omega (arith, number)))
+    let p2 = c .before .before in
+    let i = p2 .before .before .loop .inv .1 in
+    let number = number-from _ _ _ _ (i .1 .1 .0) _ (p2 .get4 .ensures) in
+    let end = c .end-or-hole .ensures in
+    (scan-stop _ _ _ _ _ _ (i .0) (omega arith) (λ z. omega (arith, number)) _ (end .0), fault-stop _ _ _ _ _ _ (i .1 .0) (omega arith) (λ z. omega (arith, number)) _ (end .1))
 
 returns-2 : tie.Need-returns-2 Inv-loop μ-loop
 returns-2 c =
@@ -76,6 +78,8 @@ scan-spec =
     (λ c κs. search needs)
     (λ c κs. search needs)
     loop-holds
+    (λ c. search needs)
+    (λ c κs. search needs)
     (λ c. search needs)
     (λ c κs. search needs)
     returns
