@@ -1,4 +1,4 @@
--- A commit or a force that is refused keeps its state, so its numbers need not be put back.
+-- A call that is refused keeps its state, so its numbers need not be put back; and one that is done tells nothing of rows.
 use Prim.Native.Nat.{ℕ, zero, suc}
 use mathlib.Core.Path.{_≡_, refl, sym, ap, _∙_}
 use mathlib.Core.Bool.{Bool, true, false}
@@ -7,14 +7,17 @@ use native.Mathlib.Omega.{arith}
 use lib.Dec.{ltb}
 use Rattle.scope.specs.Bytes.{pick}
 use Rattle.scope.specs.Keeper.{Keeper, Answer, Outcome, refused, done, refusalOf}
-use Rattle.scope.specs.Refusals.{Call, Commit, Force, refusal}
+use Rattle.scope.specs.Row.{faultless}
+use Rattle.scope.specs.Refusals.{Call, Begin, Commit, Abort, Force, Cut, refusal, told}
 use Rattle.scope.specs.Calls.{performed, unless, act}
+use Rattle.scope.proofs.Callers.{refusal-answered}
+use Rattle.scope.proofs.Told.{told-nothing}
 use Rattle.state.specs.State.{stateOf}
 use Rattle.state.specs.Lent.{lentTo}
 use Rattle.keeper.specs.Answers.{answered, handed, leaves}
 use Rattle.keeper.specs.declared.State as code
 use Rattle.keeper.specs.declared.Answer as plain
-use Rattle.keeper.specs.declared.Answer.the-variants.{Refused}
+use Rattle.keeper.specs.declared.Answer.the-variants.{Done, Refused}
 use Rattle.boundary.specs.Boundary.{isState, seven, result, over}
 use Rattle.boundary.proofs.Crossing.{kept}
 
@@ -33,6 +36,18 @@ pub commit-keeps : Keeps Commit
 unfolding act performed
 commit-keeps k n e = unless-keeps (refusal Commit k) (performed Commit k) k n (λ z. never _ n z) e
 
+pub begin-keeps : Keeps Begin
+unfolding act performed
+begin-keeps k n e = unless-keeps (refusal Begin k) (performed Begin k) k n (λ z. never _ n z) e
+
+pub abort-keeps : Keeps Abort
+unfolding act performed
+abort-keeps k n e = unless-keeps (refusal Abort k) (performed Abort k) k n (λ z. never _ n z) e
+
+pub cut-keeps : (p : ℕ) → Keeps (Cut p)
+unfolding act performed
+cut-keeps p k n e = unless-keeps (refusal (Cut p) k) (performed (Cut p) k) k n (λ z. never _ n z) e
+
 either-done : (b : Bool) (r q : Outcome) (v w n : ℕ) → r .answer ≡ done v → q .answer ≡ done w → pick b r q .answer ≡ refused n → ⊥
 either-done true r q v w n a b e = never v n (sym a ∙ e)
 either-done false r q v w n a b e = never w n (sym b ∙ e)
@@ -50,3 +65,12 @@ module _ (xs m c f l w : List ℕ) (value : Answer → ℕ) (which : Call) (i : 
       let a : answered x ≡ refused number = ap answered r in
       kept xs m c f l w (isState xs) refl value which i s next (answered x) m2 c2 f2 l2 w2 number 0 q d (sym (ap refusalOf a)) (sym (ap value a ∙ z))
       (keeps (handed s m c f l w) number (sym (ap (λ (o : Outcome). o .answer) d) ∙ a))
+
+-- a call that is done tells nothing
+pub done-told : (which : Call) (s next : code.State) (x : plain.Answer) (v : ℕ) (m c f l w m2 c2 f2 l2 w2 : List ℕ) → x ≡ Done v
+    → leaves (answered x) next m2 c2 f2 l2 w2 ≡ act which (handed s m c f l w) → faultless ≡ told which (handed s m c f l w)
+unfolding leaves
+done-told which s next x v m c f l w m2 c2 f2 l2 w2 r d =
+    let k = handed s m c f l w in
+    let z : 0 ≡ refusal which k = sym (ap (λ y. refusalOf (answered y)) r) ∙ ap (λ (o : Outcome). refusalOf (o .answer)) d ∙ refusal-answered which k in
+    told-nothing which k 0 z (λ h. omega arith) (λ h. omega arith)

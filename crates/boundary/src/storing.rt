@@ -46,14 +46,16 @@ pub extern "C" fn keeper_force(
         return 1;
     };
     let out = s.force(medium, waiting);
-    let fault = out.fault;
-    *reason = fault_reason(fault);
-    *entry = fault_entry(fault);
     let answer = out.answer;
     if let Answer::Refused(number) = answer {
+        let fault = out.fault;
+        *reason = fault_reason(fault);
+        *entry = fault_entry(fault);
         *value = 0;
         return number;
     }
+    *reason = 0;
+    *entry = 0;
     let next = out.state;
     put_state(state, next);
     *value = value_of(answer);
@@ -106,11 +108,16 @@ pub extern "C" fn keeper_cut(
         return 1;
     };
     let out = s.cut(p, medium, first);
-    let fault = out.fault;
-    *reason = fault_reason(fault);
-    *entry = fault_entry(fault);
+    let answer = out.answer;
+    if let Answer::Refused(number) = answer {
+        let fault = out.fault;
+        *reason = fault_reason(fault);
+        *entry = fault_entry(fault);
+        return number;
+    }
+    *reason = 0;
+    *entry = 0;
     let next = out.state;
     put_state(state, next);
-    let answer = out.answer;
     number_of(answer)
 }

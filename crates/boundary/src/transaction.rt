@@ -35,12 +35,17 @@ pub extern "C" fn keeper_begin(
         return 1;
     };
     let out = s.begin(current, first, last, waiting);
-    let fault = out.fault;
-    *reason = fault_reason(fault);
-    *entry = fault_entry(fault);
+    let answer = out.answer;
+    if let Answer::Refused(number) = answer {
+        let fault = out.fault;
+        *reason = fault_reason(fault);
+        *entry = fault_entry(fault);
+        return number;
+    }
+    *reason = 0;
+    *entry = 0;
     let next = out.state;
     put_state(state, next);
-    let answer = out.answer;
     number_of(answer)
 }
 
@@ -129,11 +134,16 @@ pub extern "C" fn keeper_abort(
         return 1;
     };
     let out = s.abort(current, first, last, waiting);
-    let fault = out.fault;
-    *reason = fault_reason(fault);
-    *entry = fault_entry(fault);
+    let answer = out.answer;
+    if let Answer::Refused(number) = answer {
+        let fault = out.fault;
+        *reason = fault_reason(fault);
+        *entry = fault_entry(fault);
+        return number;
+    }
+    *reason = 0;
+    *entry = 0;
     let next = out.state;
     put_state(state, next);
-    let answer = out.answer;
     number_of(answer)
 }

@@ -103,6 +103,9 @@ module _ (n : Numbers) (p : code.Phase) (waiting : List ℕ) (b : Bool) (e : b �
   unfolding openFaultIn
   open-none z = simp (← e, z)
 
+  pub none-open : b ≡ false → false ≡ isFault (openFaultIn n p waiting)
+  none-open z = ap isFault (open-none z)
+
   pub open-run : (w : Fault) → b ≡ true → w ≡ lowestFault (wrongUpdateIn waiting (n .slots) (n .cells)) (n .l - n .o) (n .o) → w ≡ openFaultIn n p waiting
   unfolding openFaultIn
   open-run w z q = q ∙ simp (← e, z)

@@ -163,7 +163,11 @@ pub fn abort(
     if recovering {
         return plain(10);
     }
-    let found = open_fault(numbers, phase, waiting);
+    let running = is_run(phase);
+    if running {} else {
+        return plain(0);
+    }
+    let found = lowest_fault(waiting, numbers.slots, numbers.cells, numbers.o, numbers.l);
     let Fault::None = found else {
         return bad(found);
     };

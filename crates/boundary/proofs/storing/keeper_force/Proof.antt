@@ -2,7 +2,7 @@
 use borrow.Author.Needs.{needs}
 use mathlib.Core.Path.{refl}
 use Rattle.boundary.proofs.Crossing.{crossed, no-state, tells-crossed, no-state-tells}
-use Rattle.boundary.proofs.Kept.{force-keeps, refused-crossed}
+use Rattle.boundary.proofs.Kept.{force-keeps, refused-crossed, done-told}
 use Rattle.boundary.proofs.SevenNumbers.{holds-state, holds-none}
 use Rattle.boundary.proofs.storing.keeper_force.Statement.{statement}
 use Rattle.boundary.proofs.storing.keeper_force.Tie as tie
@@ -17,33 +17,31 @@ returns-2 : tie.Need-returns-2
 returns-2 c =
     let p1 = c .before in
     let p3 = p1 .before .before in
-    let p4 = p3 .before in
-    let p7 = p4 .before .before .before in
+    let p7 = p3 .before .before .before .before in
     let p10 = p7 .before .before .before in
     let p12 = p10 .before .before in
     let h = holds-state _ _ (p12 .state-in .ensures) _ (p10 .s .given .1) in (
-      refused-crossed _ _ _ _ _ _ _ _ (h .is-state) _ (p7 .force .result .state) (h .read) _ _ _ _ _ _ _ (p1 .answer .given .1) refl force-keeps (p7 .force .ensures .0),
-      tells-crossed _ _ _ _ _ _ _ refl _ (h .is-state) _ (h .read) _ (p7 .force .ensures .1) _ _ (p4 .fault-reason .ensures) (p3 .fault-entry .ensures),
+      refused-crossed _ _ _ _ _ _ _ _ (h .is-state) _ (p7 .force .result .state) (h .read) _ _ _ _ _ _ _ (p3 .answer .given .1) refl force-keeps (p7 .force .ensures .0),
+      tells-crossed _ _ _ _ _ _ _ refl _ (h .is-state) _ (h .read) _ (p7 .force .ensures .1) _ _ (p1 .fault-reason .ensures) (c .fault-entry .ensures),
     )
 
 put-state-requires : tie.Need-put-state-requires
 put-state-requires c κs =
-    let p11 = c .before .before .before .before .before .before .before .before .before .before .before in
-    let p13 = p11 .before .before in
-    holds-state _ _ (p13 .state-in .ensures) _ (p11 .s .given .1) .is-seven
+    let p9 = c .before .before .before .before .before .before .before .before .before in
+    let p11 = p9 .before .before in
+    holds-state _ _ (p11 .state-in .ensures) _ (p9 .s .given .1) .is-seven
 
 returns-3 : tie.Need-returns-3
 returns-3 c =
     let p1 = c .before in
     let p4 = p1 .before .before .before in
-    let p9 = p4 .before .before .before .before .before in
-    let p10 = p9 .before in
-    let p13 = p10 .before .before .before in
-    let p16 = p13 .before .before .before in
-    let p18 = p16 .before .before in
-    let h = holds-state _ _ (p18 .state-in .ensures) _ (p16 .s .given .1) in (
-      crossed _ _ _ _ _ _ _ refl _ _ (h .is-state) _ (p13 .force .result .state) _ _ _ _ _ _ _ _ _ (h .read) (p13 .force .ensures .0) (c .number-of .ensures) (p1 .value-of .ensures) (p4 .put-state .ensures),
-      tells-crossed _ _ _ _ _ _ _ refl _ (h .is-state) _ (h .read) _ (p13 .force .ensures .1) _ _ (p10 .fault-reason .ensures) (p9 .fault-entry .ensures),
+    let p7 = p4 .before .before .before in
+    let p11 = p7 .before .before .before .before in
+    let p14 = p11 .before .before .before in
+    let p16 = p14 .before .before in
+    let h = holds-state _ _ (p16 .state-in .ensures) _ (p14 .s .given .1) in (
+      crossed _ _ _ _ _ _ _ refl _ _ (h .is-state) _ (p11 .force .result .state) _ _ _ _ _ _ _ _ _ (h .read) (p11 .force .ensures .0) (c .number-of .ensures) (p1 .value-of .ensures) (p4 .put-state .ensures),
+      tells-crossed _ _ _ _ _ _ _ refl _ (h .is-state) _ (h .read) _ (done-told _ _ (p11 .force .result .state) _ _ _ _ _ _ _ _ _ _ _ _ (p7 .enum-told2 .given .1) (p11 .force .ensures .0)) _ _ refl refl,
     )
 
 pub keeper-force-spec : {M : Type 1} → statement M
@@ -56,9 +54,9 @@ keeper-force-spec =
     (λ c. search needs)
     returns
     (λ c κs. search needs)
-    (λ c κs. search needs)
-    (λ c κs. search needs)
     (λ c. search needs)
+    (λ c κs. search needs)
+    (λ c κs. search needs)
     (λ c. search needs)
     (λ c. search needs)
     returns-2
