@@ -40,7 +40,7 @@ pub const OPS: [(Op, &str); 20] = [
     (Op::Nothing, "nothing"),
     (Op::Read, "read"),
     (Op::Write, "write"),
-    (Op::Commit, "commit"),
+    (Op::Commit, "commit of 1 update"),
     (Op::Force, "force"),
     (Op::Begin, "begin"),
     (Op::BeginInRun, "begin in run, 1 update"),
@@ -182,7 +182,7 @@ fn round<K: Keeper>(keeper: &K, op: Op, rig: &mut Rig) -> u32 {
         Op::Write => {
             each!(|state, cell| keeper.write(state, cell, cell as u64, current, first, last, waiting))
         }
-        Op::Commit => each!(|state, cell| keeper.commit(state, waiting, &mut value)),
+        Op::Commit => each!(|state, cell| keeper.commit(state, medium, waiting, &mut value, &mut bad)),
         Op::AbortOne | Op::AbortFull => {
             each!(|state, cell| keeper.abort(state, current, first, last, waiting, &mut bad))
         }

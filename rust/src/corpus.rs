@@ -71,8 +71,8 @@ fn call_at_work(desk: &Desk, rng: &mut Rng) -> Call {
         (_, 35..41) => Call::WriteBack { cell },
         (_, 41) => Call::Cut { p: state.f.min(state.o) },
         (Phase::Idle, _) => Call::Begin,
-        (Phase::Run, 42..84) => Call::Write { cell, value: value(rng) },
-        (Phase::Run, 84..94) => Call::Commit,
+        (Phase::Run, 42..87) => Call::Write { cell, value: value(rng) },
+        (Phase::Run, 87..94) => Call::Commit,
         (Phase::Run, _) => Call::Abort,
     }
 }

@@ -180,7 +180,7 @@ fn span(rng: &mut Rng, cells: u32) -> (u32, u32) {
         1 => (lowest, 0),
         2 => (cells, 0),
         3 => (u32::MAX - rng.between(0, 3), rng.between(0, 5)),
-        4 => (lowest, u32::MAX - lowest + 1 + rng.between(0, lowest)),
+        4 => (lowest, rng.between(0, lowest).wrapping_sub(lowest)),
         5 => (lowest, cells - lowest),
         _ => (lowest, rng.between(0, cells - lowest)),
     }

@@ -203,7 +203,7 @@ impl Desk {
             Call::Begin => keeper.begin(state, current, first, last, waiting, &mut bad),
             Call::Read { cell } => keeper.read(state, cell, current, &mut value),
             Call::Write { cell, value } => keeper.write(state, cell, value, current, first, last, waiting),
-            Call::Commit => keeper.commit(state, waiting, &mut value),
+            Call::Commit => keeper.commit(state, medium, waiting, &mut value, &mut bad),
             Call::Abort => keeper.abort(state, current, first, last, waiting, &mut bad),
             Call::Force => keeper.force(state, medium, waiting, &mut value, &mut bad),
             Call::WriteBack { cell } => keeper.write_back(state, cell, medium, current, first, last, &mut value),

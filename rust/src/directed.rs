@@ -1,5 +1,5 @@
 //! Directed histories: document 01's sessions, the largest sizes to their brim, the last entry numbers, every two flaws in one
-//! row, and what four rows can hold around a hole.
+//! row, commits over rows that read and rows that don't, and what four rows can hold around a hole.
 
 use crate::desk::{Buffer, Call};
 use crate::event::Event;
@@ -59,6 +59,7 @@ pub fn all() -> Vec<Directed> {
         broken_row(),
         flawed_rows(),
         other_sizes(),
+        commits(),
     ];
     all.extend(holes());
     all
@@ -69,19 +70,16 @@ fn sessions() -> Directed {
     let mut d = Directed::new("the sessions of document 01", 2, 4, 0);
     d.calls([Call::Read { cell: 0 }, Call::Abort, Call::Begin, Call::Write { cell: 0, value: A }]);
     d.calls([Call::Write { cell: 1, value: B }, Call::Write { cell: 2, value: B }, Call::Read { cell: 2 }]);
-    d.recover(2).calls([Call::Begin, Call::Write { cell: 0, value: A }, Call::Commit]).many(3, Call::Force);
-    d.calls([
-        Call::Begin,
-        Call::Write { cell: 0, value: B },
-        Call::Write { cell: 0, value: B },
-        Call::Commit,
-        Call::Begin,
-    ]);
-    d.calls([Call::WriteBack { cell: 0 }, Call::Force, Call::WriteBack { cell: 0 }]);
-    d.recover(3).recover(2);
-    d.calls([Call::Begin, Call::Write { cell: 0, value: B }, Call::Commit]).many(2, Call::Force);
-    d.calls([Call::Cut { p: 4 }, Call::Cut { p: 5 }, Call::WriteBack { cell: 0 }]);
-    d.calls([3, 4, 5, 6].map(|p| Call::Cut { p })).calls([1, 4, 5, 6].map(|n| Call::Look { n }));
+    let write = |value| [Call::Begin, Call::Write { cell: 0, value }];
+    d.recover(2).calls(write(A)).calls([Call::Force, Call::Commit, Call::Force]);
+    d.calls(write(B)).calls([Call::Write { cell: 0, value: B }, Call::WriteBack { cell: 0 }, Call::Force]);
+    d.calls([Call::WriteBack { cell: 0 }]).recover(3).recover(2);
+    // The same from entry 4 on, to its commit.
+    d.calls(write(A)).calls([Call::Commit, Call::WriteBack { cell: 0 }]).calls(write(B));
+    d.calls([Call::Force, Call::WriteBack { cell: 0 }, Call::Commit, Call::Force, Call::Begin]);
+    d.calls([6, 8, 5].map(|p| Call::Cut { p })).recover(2).recover(2);
+    d.calls(write(A)).calls([Call::Commit, Call::Cut { p: 9 }, Call::WriteBack { cell: 0 }]);
+    d.calls([1, 8, 9, 10].map(|n| Call::Look { n })).calls([7, 8, 9, 10].map(|p| Call::Cut { p }));
     d
 }
 
@@ -89,7 +87,7 @@ fn sessions() -> Directed {
 fn labels() -> Directed {
     let mut d = Directed::new("1.10 after 1.9", 2, 4, 0);
     for value in [A, B] {
-        d.calls([Call::Begin, Call::Write { cell: 0, value }, Call::Commit]).many(2, Call::Force);
+        d.calls([Call::Begin, Call::Write { cell: 0, value }, Call::Commit]);
     }
     d.recover(2);
     d
@@ -105,12 +103,12 @@ fn overwritten() -> Directed {
     d
 }
 
-/// Every row and every cell of the largest medium.
+/// Every row and every cell of the largest medium, the rows stored by one commit.
 fn brim() -> Directed {
     let mut d = Directed::new("the largest medium, full", 1024, 1024, 1000);
     d.calls([Call::Begin]).calls((0..1023).map(|cell| Call::Write { cell, value: A + cell as u64 }));
     d.calls([Call::Write { cell: 0, value: B }, Call::Begin, Call::Commit, Call::Begin]);
-    d.many(1025, Call::Force).calls((0..1024).step_by(3).map(|cell| Call::WriteBack { cell }));
+    d.calls([Call::Force]).calls((0..1024).step_by(3).map(|cell| Call::WriteBack { cell }));
     d.calls([Call::Cut { p: 2024 }]).recover(800).recover(2);
     d
 }
@@ -128,7 +126,7 @@ fn last_numbers() -> Directed {
     d.calls([Call::Begin, Call::Write { cell: 0, value: A }, Call::Begin]).many(2, Call::Force);
     d.calls([Call::WriteBack { cell: 0 }, Call::Cut { p: M - 3 }, Call::Write { cell: 1, value: B }]);
     d.calls([Call::Write { cell: 1, value: A }, Call::Write { cell: 1, value: A }, Call::Begin, Call::Commit]);
-    d.calls([Call::Begin]).many(4, Call::Force).calls([Call::Look { n: M }, Call::Cut { p: M }]);
+    d.calls([Call::Begin, Call::Force, Call::Look { n: M }, Call::Cut { p: M }]);
     d.calls([Call::WriteBack { cell: 0 }, Call::WriteBack { cell: 1 }, Call::Cut { p: M }, Call::Begin]).recover(2);
     d
 }
@@ -166,9 +164,10 @@ fn flawed_rows() -> Directed {
         d.events.extend([14, 15, 16].map(|n| place(Buffer::Medium, n, row(n, n > 14))));
         d.events.extend([16, 17, 18].map(|n| place(Buffer::Waiting, n, row(n, n > 16))));
         d.events.extend([Event::Head { h: 13 }, Event::State(state.numbers())]);
-        d.calls([Call::Cut { p: 15 }, Call::Abort, Call::Begin]);
+        d.calls([Call::Cut { p: 15 }, Call::Abort, Call::Begin, Call::Commit]);
+        d.events.push(Event::State(state.numbers()));
         d.events.push(place(Buffer::Waiting, 16, row(16, true)));
-        d.calls([Call::Force, Call::Abort, Call::RecoveryStart]);
+        d.calls([Call::Force, Call::Commit, Call::Abort, Call::RecoveryStart]);
         d.events.push(Event::Row { buffer: Buffer::Row, slot: 0, row: row(17, true) });
         d.calls([Call::ReadRow { cells: 3, number: 17 }]);
     }
@@ -179,6 +178,30 @@ fn flawed_rows() -> Directed {
 fn other_sizes() -> Directed {
     let mut d = Directed::new("sizes out of rule", 2, 4, 0);
     d.calls([(2, 3), (2, 1025), (0, 4), (1025, 4), (3, 4), (M, M)].map(|(cells, slots)| Call::Format { cells, slots }));
+    d
+}
+
+/// Commits with entries 16 to 18 to be stored, for every choice of bad rows among these and that of 15, which is stored. The
+/// open transaction has all four, some or none, or none is open.
+pub fn commits() -> Directed {
+    let mut d = Directed::new("commits over four waiting rows", 3, 8, 13);
+    let opens = [14, 15, 16, 18].map(|o| (o, Phase::Run)).into_iter().chain([(18, Phase::Idle)]);
+    let ways = FLAWS.into_iter().flat_map(|flaw| (0..16).map(move |way| (flaw, way)));
+    for ((flaw, way), (o, phase)) in ways.flat_map(|way| opens.clone().map(move |open| (way, open))) {
+        let state = State { cells: 3, slots: 8, h: 13, f: 15, l: 18, o, phase };
+        for number in 15..20 {
+            let (slot, stale) = (slot_of(number, 8), plain_row(number - 8));
+            let row = match way >> (number - 15) & 1 {
+                _ if number == 19 => stale,
+                1 => spoiled(number, [flaw; 2], 3, number as u64),
+                _ => plain_row(number),
+            };
+            d.events.push(Event::Row { buffer: Buffer::Medium, slot, row: stale });
+            d.events.push(Event::Row { buffer: Buffer::Waiting, slot, row });
+        }
+        d.events.push(Event::State(state.numbers()));
+        d.calls([Call::Commit, Call::Force]);
+    }
     d
 }
 

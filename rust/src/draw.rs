@@ -150,9 +150,9 @@ impl Draw {
 
     fn idle_call(&mut self, state: &State, desk: &Desk) -> Call {
         let [begin, force, back, cut] = match self.mood {
-            Mood::Even => [40, 65, 80, 92],
+            Mood::Even => [45, 60, 80, 92],
             Mood::Fill => [85, 90, 92, 94],
-            Mood::Drain => [8, 45, 80, 96],
+            Mood::Drain => [8, 30, 75, 96],
         };
         match self.rng.below(100) {
             k if k < begin => Call::Begin,
@@ -449,7 +449,11 @@ impl Draw {
                 at: self.rng.index(desk.waiting.len()),
                 value: self.rng.below(256),
             },
-            2..4 => self.damaged_row(desk),
+            2 => self.damaged_row(desk),
+            3 => match state {
+                Some(state) if state.f < state.l => self.spoiled_waiting(&state, desk),
+                _ => self.damaged_row(desk),
+            },
             4 => self.worn_row(desk),
             5..8 => self.damaged_mark(desk),
             8 if self.rng.percent(30) => self.damaged_head(desk),
@@ -467,6 +471,20 @@ impl Draw {
         let number = self.rng.between(low, high).saturating_add(self.rng.below(2) as u32).max(1);
         let row = self.row(number, desk.cells, 40);
         Event::Row { buffer, slot: slot_of(number, desk.slots), row }
+    }
+
+    /// A row that is to be stored is spoiled, a commit is tried, and the row is put right again or not.
+    fn spoiled_waiting(&mut self, state: &State, desk: &Desk) -> Event {
+        let slot = slot_of(self.rng.between(state.f + 1, state.l), desk.slots);
+        let (buffer, right) = (Buffer::Waiting, *desk.waiting[ROW * slot..].first_chunk().unwrap());
+        let mut row = right;
+        self.spoil(&mut row, desk.cells);
+        self.queue.push_back(Event::call(Call::Commit));
+        if self.rng.percent(70) {
+            let again = [Event::Row { buffer, slot, row: right }, Event::call(Call::Commit), Event::call(Call::Force)];
+            self.queue.extend(again);
+        }
+        Event::Row { buffer, slot, row }
     }
 
     /// A stored row with another number.
@@ -515,8 +533,9 @@ impl Draw {
         };
         let made = if self.rng.percent(40) { slots - self.rng.between(0, 2) } else { self.rng.between(0, slots) };
         let l = h.saturating_add(made);
-        let f = self.rng.between(h, l);
-        // Short transactions are likelier: each of their rows is put in place.
+        // Short transactions and few waiting rows are likelier: each of these is put in place.
+        let f =
+            if self.rng.percent(70) { l.saturating_sub(self.rng.between(0, 9)).max(h) } else { self.rng.between(h, l) };
         let o =
             if self.rng.percent(90) { l.saturating_sub(self.rng.between(0, 6)).max(h) } else { self.rng.between(h, l) };
         match self.rng.below(10) {
@@ -536,7 +555,7 @@ impl Draw {
     /// Puts a state in place with the rows that it speaks of, and has a few calls made.
     fn drawn_state(&mut self, desk: &Desk) -> Event {
         let state = self.sound_state(desk);
-        let flawed = if self.rng.percent(30) { 20 } else { 0 };
+        let flawed = self.rng.pick(&[0, 0, 0, 0, 0, 0, 0, 10, 20, 30]);
         if self.rng.percent(90) {
             self.waiting_rows(&state, flawed);
         }
@@ -547,8 +566,10 @@ impl Draw {
             self.queue.push_back(Event::call(Call::Cut { p: number }));
         }
         if flawed > 0 {
-            let calls = [Call::Force, self.rng.pick(&[Call::Abort, Call::Begin])];
+            let calls = [Call::Commit, Call::Force, self.rng.pick(&[Call::Abort, Call::Begin])];
             self.queue.extend(calls.map(Event::call));
+        } else if self.rng.percent(20) {
+            self.queue.extend([Call::Commit, Call::Force].map(Event::call));
         }
         for _ in 0..1 + self.rng.below(3) {
             let lend = self.rng.percent(10).then(|| self.wrong_length(desk));
@@ -561,9 +582,9 @@ impl Draw {
         Event::State(state.numbers())
     }
 
-    /// The open transaction's updates and the entry that force needs, and marks near them.
+    /// The open transaction's updates, the entries that are not stored and the one that force needs, and marks near them.
     fn waiting_rows(&mut self, state: &State, flawed: u64) {
-        let from = state.o.max(state.l.saturating_sub(40));
+        let from = state.o.min(state.f).max(state.l.saturating_sub(40));
         let force = (state.f < state.l).then_some(state.f);
         for number in force.into_iter().chain(from..state.l).map(|n| n + 1) {
             let mut row = self.row(number, state.cells, 0);

@@ -1,10 +1,11 @@
-//! Document 01's "Ways it has gone wrong", ways to name a bad row wrongly, and ways to miss a hole in the journal or to see
-//! one where none is, each to be put into the second program alone. The comparison must find every one.
+//! Document 01's "Ways it has gone wrong", ways to name a bad row wrongly, ways to miss a hole in the journal or to see one
+//! where none is, and ways to commit wrongly, each to be put into the second program alone. The comparison must find every one.
 //!
 //! The calls that can go wrong take the way as a constant, so that the sound program pays nothing for the switch.
 
-use crate::layout::{number_in, read_row, slot_of, word4, Entry, Flaw, Head, Row, M};
-use crate::second::{held_after, turn};
+use crate::layout::{number_in, read_row, slot_of, store_row, word4, Entry, Flaw, Head, Row, M};
+use crate::second::{append_commit, force_step, held_after, judge_open, judge_updates, judge_waiting, turn, Refused};
+use crate::state::State;
 
 #[derive(Clone, Copy, Debug, PartialEq, Eq)]
 #[repr(u8)]
@@ -58,6 +59,24 @@ pub enum Fault {
     HoleFirst,
     /// The journal ends at the hole.
     HoleIgnored,
+    /// Commit stores its own row alone, and f passes over the rows that wait before it.
+    CommitAlone,
+    /// Commit leaves the last row, its own, to force.
+    OneUnforced,
+    /// Commit judges each row as it stores it: those before a bad one are stored.
+    JudgedLate,
+    /// A refused commit leaves its entry in the waiting row.
+    RowLeft,
+    /// Commit names the highest bad row.
+    HighestWaiting,
+    /// Commit answers the number before its own.
+    NumberBefore,
+    /// Commit judges rows before it asks whether a transaction is open.
+    RowsBeforeOpen,
+    /// Commit judges no row.
+    RowsUnjudged,
+    /// Commit judges the open transaction's rows, as abort does, and not those that it stores.
+    OpenRowsJudged,
 }
 
 /// The ways of document 01.
@@ -87,6 +106,18 @@ pub const OF_HOLES: [Fault; 10] = [
     Fault::HoleFirst,
     Fault::HoleIgnored,
 ];
+/// The ways to commit wrongly.
+pub const OF_COMMIT: [Fault; 9] = [
+    Fault::CommitAlone,
+    Fault::OneUnforced,
+    Fault::JudgedLate,
+    Fault::RowLeft,
+    Fault::HighestWaiting,
+    Fault::NumberBefore,
+    Fault::RowsBeforeOpen,
+    Fault::RowsUnjudged,
+    Fault::OpenRowsJudged,
+];
 
 pub const NONE: u8 = Fault::None as u8;
 pub const BY_LABEL: u8 = Fault::ByLabel as u8;
@@ -113,6 +144,15 @@ pub const HOLE_AT_LATER: u8 = Fault::HoleAtLater as u8;
 pub const LATER_FLAW_FIRST: u8 = Fault::LaterFlawFirst as u8;
 pub const HOLE_FIRST: u8 = Fault::HoleFirst as u8;
 pub const HOLE_IGNORED: u8 = Fault::HoleIgnored as u8;
+pub const COMMIT_ALONE: u8 = Fault::CommitAlone as u8;
+pub const ONE_UNFORCED: u8 = Fault::OneUnforced as u8;
+pub const JUDGED_LATE: u8 = Fault::JudgedLate as u8;
+pub const ROW_LEFT: u8 = Fault::RowLeft as u8;
+pub const HIGHEST_WAITING: u8 = Fault::HighestWaiting as u8;
+pub const NUMBER_BEFORE: u8 = Fault::NumberBefore as u8;
+pub const ROWS_BEFORE_OPEN: u8 = Fault::RowsBeforeOpen as u8;
+pub const ROWS_UNJUDGED: u8 = Fault::RowsUnjudged as u8;
+pub const OPEN_ROWS_JUDGED: u8 = Fault::OpenRowsJudged as u8;
 
 /// The committed updates of entries h+1 to e, in order of number.
 fn committed(rows: &[Row], head: &Head, e: u32) -> Vec<(usize, u64)> {
@@ -208,4 +248,42 @@ fn later_flaw(rows: &[Row], head: &Head, n: u32) -> Option<(Flaw, u32)> {
 pub fn hole_first<'a>(rows: &'a [Row], head: &Head) -> Option<(Flaw, &'a Row, u32)> {
     let (n, row) = after(rows, head, head.h).find(|(k, row)| number_in(row) != *k)?;
     held_after(rows, head.h, n).map(|_| (Flaw::Hole, row, n))
+}
+
+/// A commit that goes wrong, of a state and lengths that are right.
+pub fn commit<const FAULT: u8>(state: State, medium: &mut [u8], waiting: &mut [u8]) -> Result<(State, u32), Refused> {
+    if FAULT == ROWS_BEFORE_OPEN {
+        judge_waiting::<NONE>(&state, waiting)?;
+    }
+    judge_open(&state)?;
+    match FAULT {
+        JUDGED_LATE => {
+            let mut forced = state;
+            while forced.f < forced.l {
+                (forced, _) = force_step::<NONE>(forced, medium, waiting)?;
+            }
+        }
+        ROW_LEFT => {
+            append_commit(state, waiting);
+            judge_waiting::<NONE>(&state, waiting)?;
+        }
+        HIGHEST_WAITING => {
+            let bad = |n: u32| judge_waiting::<NONE>(&State { f: n, l: n + 1, ..state }, waiting);
+            (state.f..state.l).rev().try_for_each(bad)?;
+        }
+        ROWS_UNJUDGED => {}
+        OPEN_ROWS_JUDGED => judge_updates::<NONE>(&state, waiting)?,
+        _ => judge_waiting::<NONE>(&state, waiting)?,
+    }
+    let state = append_commit(state, waiting);
+    let (from, to) = match FAULT {
+        COMMIT_ALONE => (state.l - 1, state.l),
+        ONE_UNFORCED => (state.f, state.l - 1),
+        _ => (state.f, state.l),
+    };
+    for n in from..to {
+        let slot = slot_of(n + 1, state.slots);
+        store_row(medium, slot, &waiting.as_chunks().0[slot]);
+    }
+    Ok((State { f: to, ..state }, if FAULT == NUMBER_BEFORE { state.l - 1 } else { state.l }))
 }

@@ -25,7 +25,7 @@ const LINES: [Line; 15] = [
     Line { name: "begin", numbers: &[0, 1, 5, 6, 7, 10], lent: &[Current, First, Last, Waiting, Numbers] },
     Line { name: "read", numbers: &[0, 1, 3, 4, 10], lent: &[Current, Numbers] },
     Line { name: "write", numbers: &[0, 1, 3, 4, 5, 6, 10], lent: &[Current, First, Last, Waiting, Numbers] },
-    Line { name: "commit", numbers: &[0, 1, 3, 10], lent: &[Waiting, Numbers] },
+    Line { name: "commit", numbers: &[0, 1, 3, 7, 10], lent: &[Medium, Waiting, Numbers] },
     Line { name: "abort", numbers: &[0, 1, 7, 10], lent: &[Current, First, Last, Waiting, Numbers] },
     Line { name: "force", numbers: &[0, 1, 7, 10], lent: &[Medium, Waiting, Numbers] },
     Line { name: "write-back", numbers: &[0, 1, 4, 8, 10], lent: &[Medium, Current, First, Last, Numbers] },
@@ -42,14 +42,14 @@ fn reasons(call: usize) -> &'static [usize] {
     match LINES[call].name {
         "recovery start" => &[3, 4, 5, 6, 7, 8, 10],
         "begin" | "abort" => &[2, 3, 4, 5, 6, 7, 8, 9],
-        "force" | "cut" => &[2, 3, 4, 5, 6, 7, 8],
+        "commit" | "force" | "cut" => &[2, 3, 4, 5, 6, 7, 8],
         "read row" => &[1, 2, 3, 4, 5, 6, 7, 8],
         _ => &[],
     }
 }
 
 /// Kinds of answer that one number doesn't tell apart.
-const CASES: [&str; 37] = [
+const CASES: [&str; 55] = [
     "recovery step: a cell",
     "recovery step: the head",
     "recovery step: clean",
@@ -76,6 +76,24 @@ const CASES: [&str; 37] = [
     "open rows, two bad ones: 7",
     "stored rows, two bad ones: 2",
     "a row with two flaws: 2, 7",
+    "commit, 1 row stored: 0",
+    "commit, 2 rows stored: 0",
+    "commit, 3 to 16 rows stored: 0",
+    "commit, more than 16 rows stored: 0",
+    "commit without an update: 0",
+    "commit, its updates stored before: 0",
+    "commit, some of its updates stored before: 0",
+    "commit, an end before it waiting: 0",
+    "commit, an end among its rows: 0",
+    "commit, a bad row that is stored: 0",
+    "commit in idle, a bad row: 3",
+    "commit, the only row waiting bad: 7",
+    "commit, the first of several bad: 7",
+    "commit, one in the middle bad: 7",
+    "commit, the last of several bad: 7",
+    "commit, two bad ones: 7",
+    "commit, a bad row of an entry before it: 7",
+    "force after a commit: nothing left",
     "a hole, four rows: 2",
     "a hole, only the last place after it: 2",
     "a hole, M's row after it: 2",
@@ -138,6 +156,8 @@ pub struct Made {
     pub lend: Option<(Buffer, usize)>,
     pub phase: u32,
     pub state: Option<State>,
+    /// Whether the event before was an accepted commit.
+    pub after_commit: bool,
 }
 
 impl Hits {
@@ -164,7 +184,8 @@ impl Hits {
                 self.lengths[at][buffer as usize] += 1;
             }
         }
-        for name in case_of(made, answer, desk).into_iter().chain(hole_cases(made, answer, desk)) {
+        let several = hole_cases(made, answer, desk).into_iter().chain(commit_cases(made, answer, desk));
+        for name in case_of(made, answer, desk).into_iter().chain(several) {
             let case = CASES.iter().position(|&case| case == name).unwrap();
             self.cases[case] += 1;
         }
@@ -330,6 +351,45 @@ fn two_flaws(row: &layout::Row, cells: u32, number: u32) -> Option<&'static str>
         end_with(24, 8),
     ];
     (flaws.iter().filter(|&&flaw| flaw).count() > 1).then_some("a row with two flaws: 2, 7")
+}
+
+/// What a commit shows, and a force after one.
+fn commit_cases(made: &Made, answer: Answer, desk: &Desk) -> Vec<&'static str> {
+    let Some(State { cells, slots, f, l, o, .. }) = made.state else {
+        return Vec::new();
+    };
+    let waiting: &[layout::Row] = desk.waiting.as_chunks().0;
+    let read = |n: u32| read_row(&waiting[slot_of(n + 1, slots)], cells, n + 1);
+    let bad = |n: u32| read(n).is_err();
+    let end = |n: u32| matches!(read(n), Ok(Entry::Commit | Entry::Abort));
+    let cases = match (made.call, answer.number, answer.bad.entry) {
+        (Call::Commit, 0, _) => vec![
+            ("commit, 1 row stored: 0", l == f),
+            ("commit, 2 rows stored: 0", l - f == 1),
+            ("commit, 3 to 16 rows stored: 0", (2..16).contains(&(l - f))),
+            ("commit, more than 16 rows stored: 0", l - f >= 16),
+            ("commit without an update: 0", o == l),
+            ("commit, its updates stored before: 0", o < l && f == l),
+            ("commit, some of its updates stored before: 0", o < f && f < l),
+            ("commit, an end before it waiting: 0", f < o),
+            ("commit, an end among its rows: 0", (f.max(o)..l).any(end)),
+            ("commit, a bad row that is stored: 0", (o..f).any(bad)),
+        ],
+        (Call::Commit, 3, _) => vec![("commit in idle, a bad row: 3", (f..l).any(bad))],
+        (Call::Commit, 7, named) => vec![
+            ("commit, the only row waiting bad: 7", l == f + 1),
+            ("commit, the first of several bad: 7", named == f + 1 && named < l),
+            ("commit, one in the middle bad: 7", named > f + 1 && named < l),
+            ("commit, the last of several bad: 7", named > f + 1 && named == l),
+            ("commit, two bad ones: 7", (named..l).any(bad)),
+            ("commit, a bad row of an entry before it: 7", named <= o),
+        ],
+        (Call::Force, 0, _) => {
+            vec![("force after a commit: nothing left", made.after_commit && answer.value == 0)]
+        }
+        _ => Vec::new(),
+    };
+    cases.into_iter().filter_map(|(name, shown)| shown.then_some(name)).collect()
 }
 
 /// The stored rows as the search for a hole meets them.

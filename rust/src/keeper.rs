@@ -78,7 +78,14 @@ pub trait Keeper {
         last: &mut [u32],
         waiting: &mut [u8],
     ) -> u32;
-    fn commit(&self, state: &mut [u32], waiting: &mut [u8], value: &mut u64) -> u32;
+    fn commit(
+        &self,
+        state: &mut [u32],
+        medium: &mut [u8],
+        waiting: &mut [u8],
+        value: &mut u64,
+        bad: &mut BadRow,
+    ) -> u32;
     fn abort(
         &self,
         state: &mut [u32],
@@ -143,6 +150,15 @@ pub fn second(fault: Fault) -> &'static dyn Keeper {
         Fault::LaterFlawFirst => &Second::<{ fault::LATER_FLAW_FIRST }>,
         Fault::HoleFirst => &Second::<{ fault::HOLE_FIRST }>,
         Fault::HoleIgnored => &Second::<{ fault::HOLE_IGNORED }>,
+        Fault::CommitAlone => &Second::<{ fault::COMMIT_ALONE }>,
+        Fault::OneUnforced => &Second::<{ fault::ONE_UNFORCED }>,
+        Fault::JudgedLate => &Second::<{ fault::JUDGED_LATE }>,
+        Fault::RowLeft => &Second::<{ fault::ROW_LEFT }>,
+        Fault::HighestWaiting => &Second::<{ fault::HIGHEST_WAITING }>,
+        Fault::NumberBefore => &Second::<{ fault::NUMBER_BEFORE }>,
+        Fault::RowsBeforeOpen => &Second::<{ fault::ROWS_BEFORE_OPEN }>,
+        Fault::RowsUnjudged => &Second::<{ fault::ROWS_UNJUDGED }>,
+        Fault::OpenRowsJudged => &Second::<{ fault::OPEN_ROWS_JUDGED }>,
     }
 }
 
@@ -261,9 +277,18 @@ impl<const FAULT: u8> Keeper for Second<FAULT> {
     }
 
     #[inline(never)]
-    fn commit(&self, state: &mut [u32], waiting: &mut [u8], value: &mut u64) -> u32 {
+    fn commit(
+        &self,
+        state: &mut [u32],
+        medium: &mut [u8],
+        waiting: &mut [u8],
+        value: &mut u64,
+        bad: &mut BadRow,
+    ) -> u32 {
+        unnamed::<FAULT>(state, bad);
         valued(state, value, |state| {
-            let (state, number) = second::commit(state, waiting)?;
+            let committed = second::commit::<FAULT>(state, medium, waiting);
+            let (state, number) = committed.map_err(|refused| bad.name(refused))?;
             Ok((state, number as u64))
         })
     }

@@ -2,26 +2,21 @@
 //!
 //! While a history is clean (format once, then calls on the state and buffers that the one before left, and power losses),
 //! every read answers as the handout's SequentialTr does; at the end of each recovery the table is that of exactly the
-//! transactions whose commit had been stored, in the order stored; no step stores another value than that table's; and run
-//! again at once, recovery stores nothing. So the ledger checks both programs against the demands,
-//! not only against each other.
+//! transactions whose commit was accepted, in that order; no step stores another value than that table's; and run again at
+//! once, recovery stores nothing. So the ledger checks both programs against the demands, not only against each other.
 
 use crate::desk::{Answer, Call, Desk};
 use crate::keeper::{STEP_CLEAN, STEP_HEAD};
 use crate::layout::table;
-use std::collections::VecDeque;
-
-type Writes = Vec<(usize, u64)>;
 
 pub struct Ledger {
-    /// The table of the stored transactions.
+    /// The table of the committed transactions.
     durable: Vec<u64>,
     /// The table as the next read must see it, and as it was when the open transaction began.
     now: Vec<u64>,
     before: Vec<u64>,
-    open: Writes,
-    /// Commits made and not stored, by number.
-    made: VecDeque<(u64, Writes)>,
+    /// The open transaction's writes.
+    open: Vec<(usize, u64)>,
     /// Whether recovery was started since the format or the last power loss; until then only that may be called.
     started: bool,
     /// Whether nothing was called since the format.
@@ -39,7 +34,6 @@ impl Ledger {
             now: empty.clone(),
             before: empty,
             open: Vec::new(),
-            made: VecDeque::new(),
             started: false,
             fresh: true,
             settled: false,
@@ -48,7 +42,6 @@ impl Ledger {
 
     pub fn lose_power(&mut self) {
         self.open.clear();
-        self.made.clear();
         self.started = false;
     }
 
@@ -82,21 +75,11 @@ impl Ledger {
                 self.now[cell as usize] = value;
                 self.open.push((cell as usize, value));
             }
-            Call::Commit => self.made.push_back((answer.value, std::mem::take(&mut self.open))),
-            Call::Force => self.stored(answer.value),
+            Call::Commit => self.open.drain(..).for_each(|(cell, value)| self.durable[cell] = value),
             _ => {}
         }
         self.settled &= call == Call::RecoveryStart;
         None
-    }
-
-    fn stored(&mut self, number: u64) {
-        if self.made.front().is_some_and(|made| made.0 == number) {
-            let (_, writes) = self.made.pop_front().unwrap();
-            for (cell, value) in writes {
-                self.durable[cell] = value;
-            }
-        }
     }
 
     fn stepped(&mut self, value: u64, desk: &Desk) -> Option<String> {
@@ -107,11 +90,12 @@ impl Ledger {
         }
         if value < STEP_HEAD {
             let wrong = differs(value as usize);
-            return wrong.then(|| format!("recovery stored a value in cell {value} that no stored transaction left"));
+            return wrong
+                .then(|| format!("recovery stored a value in cell {value} that no committed transaction left"));
         }
         let wrong = (0..table.len()).find(|&cell| differs(cell));
         self.now.clone_from(&self.durable);
         self.settled = true;
-        wrong.map(|cell| format!("recovery ended with cell {cell} not as the stored transactions say"))
+        wrong.map(|cell| format!("recovery ended with cell {cell} not as the committed transactions say"))
     }
 }

@@ -65,7 +65,17 @@ extern "C" {
         waiting: *mut u8,
         waiting_len: usize,
     ) -> u32;
-    fn keeper_commit(state: *mut u32, state_len: usize, waiting: *mut u8, waiting_len: usize, value: *mut u64) -> u32;
+    fn keeper_commit(
+        state: *mut u32,
+        state_len: usize,
+        medium: *mut u8,
+        medium_len: usize,
+        waiting: *mut u8,
+        waiting_len: usize,
+        value: *mut u64,
+        reason: *mut u32,
+        entry: *mut u32,
+    ) -> u32;
     fn keeper_abort(
         state: *mut u32,
         state_len: usize,
@@ -257,8 +267,27 @@ impl Keeper for Library {
     }
 
     #[inline]
-    fn commit(&self, state: &mut [u32], waiting: &mut [u8], value: &mut u64) -> u32 {
-        unsafe { keeper_commit(state.as_mut_ptr(), state.len(), waiting.as_mut_ptr(), waiting.len(), value) }
+    fn commit(
+        &self,
+        state: &mut [u32],
+        medium: &mut [u8],
+        waiting: &mut [u8],
+        value: &mut u64,
+        bad: &mut BadRow,
+    ) -> u32 {
+        unsafe {
+            keeper_commit(
+                state.as_mut_ptr(),
+                state.len(),
+                medium.as_mut_ptr(),
+                medium.len(),
+                waiting.as_mut_ptr(),
+                waiting.len(),
+                value,
+                &mut bad.reason,
+                &mut bad.entry,
+            )
+        }
     }
 
     #[inline]

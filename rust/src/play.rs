@@ -1,15 +1,16 @@
 //! Two keepers at two desks, led through the same history. After every call both answers and every byte of both desks must be
-//! equal, a refusal must have changed nothing and name a bad row only where it may, a call must have made one store at most,
-//! recovery must not refuse the journal of a clean history, and the ledger must agree.
+//! equal, a refusal must have changed nothing and name a bad row only where it may, a call must have made one store at most, a
+//! commit those of the rows that it had to store, recovery must not refuse the journal of a clean history, and the ledger must
+//! agree.
 
 use crate::desk::{Answer, Buffer, Call, Desk};
 use crate::event::Event;
 use crate::hits::{Hits, Made};
 use crate::keeper::{BadRow, Keeper};
-use crate::layout::{table_at, CELL, HEAD, ROW};
+use crate::layout::{read_row, slot_of, table_at, CELL, HEAD, ROW};
 use crate::ledger::Ledger;
 use crate::listing;
-use crate::state::{Phase, NUMBERS};
+use crate::state::{Phase, State, NUMBERS};
 
 /// How a history begins.
 #[derive(Clone, Copy, Debug)]
@@ -25,6 +26,8 @@ pub struct Play<'a> {
     /// The desk as it was before the last call, taken on desks small enough for it to cost little.
     before: Option<Desk>,
     ledger: Option<Ledger>,
+    /// Whether the event before was an accepted commit.
+    committed: bool,
     pub calls: u64,
 }
 
@@ -36,7 +39,7 @@ impl<'a> Play<'a> {
         let desk = Desk::new(opening.cells, opening.slots, opening.rubbish);
         let small = opening.cells.max(opening.slots) <= SMALL;
         let before = small.then(|| desk.clone());
-        Play { keepers, desks: [desk.clone(), desk], before, ledger: None, calls: 0 }
+        Play { keepers, desks: [desk.clone(), desk], before, ledger: None, committed: false, calls: 0 }
     }
 
     /// The desk of the first keeper; before a difference both are equal.
@@ -49,11 +52,11 @@ impl<'a> Play<'a> {
         for desk in &mut self.desks {
             event.disturb(desk);
         }
+        let after_commit = std::mem::take(&mut self.committed);
         match event {
             Event::Call { call, lend } => {
-                let numbers = &self.desks[0].state[..NUMBERS];
-                let made = Made { call: *call, lend: *lend, phase: numbers[6], state: self.desks[0].state() };
-                self.call(made, hits)
+                let (phase, state) = (self.desks[0].state[NUMBERS - 1], self.desks[0].state());
+                self.call(Made { call: *call, lend: *lend, phase, state, after_commit }, hits)
             }
             Event::Listing { len } => self.listing(*len),
             Event::PowerLoss { .. } => {
@@ -85,6 +88,7 @@ impl<'a> Play<'a> {
         if let Some(wrong) = misnamed(&made, a) {
             return Some(wrong);
         }
+        self.committed = made.call == Call::Commit && a.number == 0;
         hits.count(&made, a, left);
         self.judge_alone(&made, a).or_else(|| self.judge_by_ledger(&made, a))
     }
@@ -95,6 +99,9 @@ impl<'a> Play<'a> {
         let reading = matches!(made.call, Call::ReadRow { .. });
         if answer.number != 0 && !reading && made.call != Call::RecoveryStart {
             return before.difference(after).map(|place| format!("a refusal changed {place}"));
+        }
+        if let (Call::Commit, Some(state)) = (made.call, made.state) {
+            return judge_commit(state, answer, before, after);
         }
         let several = matches!(made.call, Call::Format { .. }) || made.lend.is_some();
         (!several && !one_store(before, after)).then(|| "more than one store".to_string())
@@ -132,7 +139,7 @@ impl<'a> Play<'a> {
 
 /// A bad row is named beside 2 and 7 alone, by a reason and an entry that is one.
 fn misnamed(made: &Made, answer: Answer) -> Option<String> {
-    let reads_rows = [Call::RecoveryStart, Call::Begin, Call::Abort, Call::Force].contains(&made.call)
+    let reads_rows = [Call::RecoveryStart, Call::Begin, Call::Commit, Call::Abort, Call::Force].contains(&made.call)
         || matches!(made.call, Call::Cut { .. });
     let BadRow { reason, entry } = answer.bad;
     let named = reason != 0 && entry != 0;
@@ -141,6 +148,29 @@ fn misnamed(made: &Made, answer: Answer) -> Option<String> {
         _ => answer.bad != BadRow::default(),
     };
     (reads_rows && wrong).then(|| format!("{answer}: a bad row is named beside 2 and 7 alone"))
+}
+
+/// What an accepted commit breaks by itself: it answers l+1, all entries up to that one are stored, each a row that reads, and
+/// no other byte of the medium and of the waiting rows has changed.
+fn judge_commit(state: State, answer: Answer, before: &Desk, after: &Desk) -> Option<String> {
+    let (end, slots) = (state.l + 1, state.slots);
+    let (mut medium, mut waiting) = (before.medium.clone(), before.waiting.clone());
+    let own = ROW * slot_of(end, slots);
+    waiting[own..own + ROW].copy_from_slice(&after.waiting[own..own + ROW]);
+    for number in state.f + 1..=end {
+        let at = ROW * slot_of(number, slots);
+        let row = &after.waiting[at..at + ROW];
+        if let Err(flaw) = read_row(row, state.cells, number) {
+            return Some(format!("commit stored a row that isn't entry {number}: {flaw:?}"));
+        }
+        medium[HEAD + at..HEAD + at + ROW].copy_from_slice(row);
+    }
+    let ended = State { f: end, l: end, o: end, phase: Phase::Idle, ..state };
+    if answer.value != end as u64 || after.state[..NUMBERS] != ended.numbers() {
+        return Some(format!("commit with f={} l={} ended at {:?}: {answer}", state.f, state.l, &after.state[2..6]));
+    }
+    let wrong = (medium != after.medium).then_some("stored other rows than those that waited, or not all");
+    wrong.or((waiting != after.waiting).then_some("changed other waiting rows")).map(|what| format!("commit {what}"))
 }
 
 /// Whether the media differ within one row, one cell or the head.

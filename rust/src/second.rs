@@ -110,7 +110,7 @@ fn judge(state: &State, fits: impl FnOnce() -> bool) -> Result<(), Refusal> {
 }
 
 #[inline]
-fn judge_open(state: &State) -> Result<(), Refusal> {
+pub(crate) fn judge_open(state: &State) -> Result<(), Refusal> {
     if state.phase == Phase::Run {
         Ok(())
     } else {
@@ -139,9 +139,25 @@ fn judge_room(state: &State) -> Result<(), Refusal> {
     Ok(())
 }
 
+/// The waiting row of an entry, where it is that entry.
+#[inline(always)]
+fn waiting_row<'a, const FAULT: u8>(state: &State, waiting: &'a [u8], number: u32) -> Result<&'a Row, Refused> {
+    let row = &waiting.as_chunks().0[slot_of(number, state.slots)];
+    match read_row(row, state.cells, number) {
+        Ok(_) => Ok(row),
+        Err(flaw) => Err(bad_row::<FAULT>(WRONG_ROW, flaw, row, state.cells, number)),
+    }
+}
+
+/// Whether the waiting rows hold the entries that are not stored.
+#[inline(always)]
+pub(crate) fn judge_waiting<const FAULT: u8>(state: &State, waiting: &[u8]) -> Result<(), Refused> {
+    (state.f..state.l).try_for_each(|n| waiting_row::<FAULT>(state, waiting, n + 1).map(drop))
+}
+
 /// Whether the waiting rows hold the open transaction's updates.
 #[inline(always)]
-fn judge_updates<const FAULT: u8>(state: &State, waiting: &[u8]) -> Result<(), Refused> {
+pub(crate) fn judge_updates<const FAULT: u8>(state: &State, waiting: &[u8]) -> Result<(), Refused> {
     let rows = waiting.as_chunks().0;
     let (low, high) = (state.o + 1, state.l);
     for k in low..high + 1 {
@@ -370,13 +386,27 @@ pub fn write(mut state: State, cell: u32, new: u64, mut work: Work) -> Result<St
     Ok(state)
 }
 
-/// Answers the commit's number. It is durable once force has answered that number.
-#[inline]
-pub fn commit(mut state: State, waiting: &mut [u8]) -> Result<(State, u32), Refusal> {
-    judge(&state, || waiting_fits(&state, waiting))?;
-    judge_open(&state)?;
+/// Commit's first step, in run: appends its entry and stores nothing.
+#[inline(always)]
+pub fn append_commit(mut state: State, waiting: &mut [u8]) -> State {
     append(&mut state, waiting, Entry::Commit);
-    Ok((State { o: state.l, phase: Phase::Idle, ..state }, state.l))
+    State { o: state.l, phase: Phase::Idle, ..state }
+}
+
+/// Ends the transaction: appends its commit, then takes force's step until every entry is stored. Answers the commit's number.
+#[inline]
+pub fn commit<const FAULT: u8>(state: State, medium: &mut [u8], waiting: &mut [u8]) -> Result<(State, u32), Refused> {
+    judge(&state, || medium_fits(&state, medium) && waiting_fits(&state, waiting))?;
+    if let fault::COMMIT_ALONE..=fault::OPEN_ROWS_JUDGED = FAULT {
+        return fault::commit::<FAULT>(state, medium, waiting);
+    }
+    judge_open(&state)?;
+    judge_waiting::<FAULT>(&state, waiting)?;
+    let mut state = append_commit(state, waiting);
+    while state.f < state.l {
+        (state, _) = force_step::<FAULT>(state, medium, waiting)?;
+    }
+    Ok((state, state.l))
 }
 
 #[inline]
@@ -389,21 +419,27 @@ pub fn abort<const FAULT: u8>(state: State, work: Work) -> Result<State, Refused
     Ok(roll_back::<FAULT>(state, work))
 }
 
-/// Stores the next entry and answers its number, or 0 where all are stored.
-#[inline]
-pub fn force<const FAULT: u8>(state: State, medium: &mut [u8], waiting: &[u8]) -> Result<(State, u32), Refused> {
-    judge(&state, || medium_fits(&state, medium) && waiting_fits(&state, waiting))?;
+/// Stores the waiting row of f+1 and answers that number, or 0 where all are stored.
+#[inline(always)]
+pub(crate) fn force_step<const FAULT: u8>(
+    state: State,
+    medium: &mut [u8],
+    waiting: &[u8],
+) -> Result<(State, u32), Refused> {
     if state.f == state.l {
         return Ok((state, 0));
     }
     let number = state.f + 1;
-    let slot = slot_of(number, state.slots);
-    let row = &waiting.as_chunks().0[slot];
-    if let Err(flaw) = read_row(row, state.cells, number) {
-        return Err(bad_row::<FAULT>(WRONG_ROW, flaw, row, state.cells, number));
-    }
-    store_row(medium, slot, row);
+    let row = waiting_row::<FAULT>(&state, waiting, number)?;
+    store_row(medium, slot_of(number, state.slots), row);
     Ok((State { f: number, ..state }, number))
+}
+
+/// Stores the next entry and answers its number, or 0 where all are stored.
+#[inline]
+pub fn force<const FAULT: u8>(state: State, medium: &mut [u8], waiting: &[u8]) -> Result<(State, u32), Refused> {
+    judge(&state, || medium_fits(&state, medium) && waiting_fits(&state, waiting))?;
+    force_step::<FAULT>(state, medium, waiting)
 }
 
 /// Stores the cell's current value, if it changed since it was last stored; answers whether it did.

@@ -1,5 +1,5 @@
 //! Document 01's sessions 1 to 14 on the second program alone, in the sessions' own words: N = 2, C = 4 where nothing else
-//! is said.
+//! is said. By ticket 4 commit stores: what a session wants of f before that is forced before the commit.
 
 use second::directed::{A, B};
 use second::fault::Fault;
@@ -53,25 +53,37 @@ impl Terminal {
         terminal
     }
 
-    /// Case 2: A committed and stored.
+    /// Case 2: A committed.
     fn with_a() -> Terminal {
         let mut t = Terminal::new();
         assert_eq!([t.begin(), t.write(0, A)], [Ok(0); 2]);
-        assert_eq!(t.commit(), Ok(2));
-        assert_eq!([t.force(), t.force(), t.force()], [Ok(1), Ok(2), Ok(0)]);
+        assert_eq!([t.force(), t.commit(), t.force()], [Ok(1), Ok(2), Ok(0)]);
         t
     }
 
-    /// Case 3: then B committed, with entries up to f stored.
-    fn with_b(f: u32) -> Terminal {
+    /// Case 3 before its commit: then B written, with entries up to f stored.
+    fn with_b_open(f: u32) -> Terminal {
         let mut t = Terminal::with_a();
         assert_eq!([t.begin(), t.write(0, B)], [Ok(0); 2]);
         assert_eq!(read_row(&t.waiting[2 * ROW..], 2, 3), Ok(Entry::Update { cell: 0, old: A, new: B }));
         assert_eq!(t.write(0, B), Err(5));
-        assert_eq!(t.commit(), Ok(4));
-        assert_eq!(t.begin(), Err(5));
         (2..f).for_each(|n| assert_eq!(t.force(), Ok(n as u64 + 1)));
         t
+    }
+
+    /// The same with f = 3 and cell 0 stored as B.
+    fn with_b_stored() -> Terminal {
+        let mut t = Terminal::with_b_open(3);
+        assert_eq!(t.write_back(0), Ok(1));
+        assert_eq!(t.cell_on_medium(0), B);
+        t
+    }
+
+    /// Commits B: all entries are stored, and there is no room.
+    fn commit_b(mut self) -> Terminal {
+        assert_eq!([self.commit(), self.force(), self.begin()], [Ok(4), Ok(0), Err(5)]);
+        assert_eq!(self.state, [2, 4, 0, 4, 4, 4, 0]);
+        self
     }
 
     /// Power loss, then recovery to its end: the steps' values, or start's refusal.
@@ -124,8 +136,9 @@ impl Terminal {
     }
 
     fn commit(&mut self) -> Outcome {
+        let Terminal { keeper, medium, waiting, state, .. } = self;
         let mut value = 0;
-        let number = self.keeper.commit(&mut self.state, &mut self.waiting, &mut value);
+        let number = keeper.commit(state, medium, waiting, &mut value, &mut BadRow::default());
         outcome(number, value)
     }
 
@@ -165,20 +178,21 @@ fn case_1_first_recovery_is_clean() {
 }
 
 #[test]
-fn case_2_write_commit_force() {
+fn case_2_write_force_commit() {
     let t = Terminal::with_a();
     assert_eq!(t.state, [2, 4, 0, 2, 2, 2, 0]);
 }
 
 #[test]
 fn case_3_no_room() {
-    let t = Terminal::with_b(2);
-    assert_eq!(t.state, [2, 4, 0, 2, 4, 4, 0]);
+    let t = Terminal::with_b_open(2);
+    assert_eq!(t.state, [2, 4, 0, 2, 3, 2, 1]);
+    t.commit_b();
 }
 
 #[test]
 fn case_4_write_back_waits_for_force() {
-    let mut t = Terminal::with_b(2);
+    let mut t = Terminal::with_b_open(2);
     assert_eq!(t.write_back(0), Err(8));
     assert_eq!(t.force(), Ok(3));
     assert_eq!(t.write_back(0), Ok(1));
@@ -187,9 +201,7 @@ fn case_4_write_back_waits_for_force() {
 
 #[test]
 fn case_5_open_transaction_is_undone() {
-    let mut t = Terminal::with_b(3);
-    assert_eq!(t.write_back(0), Ok(1));
-    assert_eq!(t.cell_on_medium(0), B);
+    let mut t = Terminal::with_b_stored();
     let listed = listing::text(t.keeper, &mut t.medium.clone());
     assert_eq!(listed, "cells=2\nslots=4\nhead=3\ncell=0\npart=40017\nrelease=1.9\n");
     assert_eq!(t.recover(), Ok(vec![0, STEP_HEAD]));
@@ -198,16 +210,14 @@ fn case_5_open_transaction_is_undone() {
 
 #[test]
 fn case_6_committed_transaction_stays() {
-    let mut t = Terminal::with_b(4);
-    assert_eq!(t.write_back(0), Ok(1));
+    let mut t = Terminal::with_b_stored().commit_b();
     assert_eq!(t.recover(), Ok(vec![STEP_HEAD]));
     assert_eq!((t.cell_on_medium(0), t.head()), (B, 4));
 }
 
 #[test]
 fn case_7_recovery_again_is_clean() {
-    let mut t = Terminal::with_b(3);
-    assert_eq!(t.write_back(0), Ok(1));
+    let mut t = Terminal::with_b_stored();
     t.recover().unwrap();
     let before = t.medium.clone();
     assert_eq!(t.recover(), Ok(vec![STEP_CLEAN]));
@@ -217,8 +227,7 @@ fn case_7_recovery_again_is_clean() {
 #[test]
 fn case_8_cuts() {
     for (p, answer) in [(2, Ok(0)), (4, Ok(0)), (3, Err(9)), (5, Err(9))] {
-        let mut t = Terminal::with_b(4);
-        assert_eq!(t.write_back(0), Ok(1));
+        let mut t = Terminal::with_b_stored().commit_b();
         assert_eq!(t.cut(p), answer);
         assert_eq!(t.head(), if answer.is_ok() { p } else { 0 });
     }
@@ -226,7 +235,7 @@ fn case_8_cuts() {
 
 #[test]
 fn case_9_cut_keeps_what_a_cell_needs() {
-    assert_eq!(Terminal::with_b(4).cut(2), Err(9));
+    assert_eq!(Terminal::with_b_open(2).commit_b().cut(2), Err(9));
 }
 
 #[test]
@@ -269,7 +278,7 @@ fn case_13_numbers_used_up() {
 
 #[test]
 fn case_14_kind_4_and_number_0() {
-    let mut t = Terminal::with_b(4);
+    let mut t = Terminal::with_b_open(3).commit_b();
     t.medium[HEAD + 4] = 4;
     assert_eq!(t.recover(), Err(2));
     assert_eq!((t.state, t.current[0]), ([0; 7], 99));
@@ -283,14 +292,13 @@ fn case_14_kind_4_and_number_0() {
 #[test]
 fn case_14_number_0_before_a_later_row() {
     for entry in [1, 2] {
-        let mut t = Terminal::with_b(3);
-        assert_eq!(t.write_back(0), Ok(1));
+        let mut t = Terminal::with_b_stored();
         t.wear(entry);
         assert_eq!(t.start(), (2, BadRow { reason: 10, entry: entry as u32 }));
         assert_eq!(t.state, [0; 7]);
         assert_eq!(listing::text(t.keeper, &mut t.medium.clone()), "refused=2\n");
     }
-    let mut t = Terminal::with_b(3);
+    let mut t = Terminal::with_b_open(3);
     t.wear(3);
     assert_eq!(t.start(), (0, BadRow::default()));
     assert_eq!(t.state, [2, 4, 0, 2, 2, 2, 2]);

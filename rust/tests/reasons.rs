@@ -43,8 +43,9 @@ fn named(desk: &Desk, call: Call) -> (u32, BadRow) {
 }
 
 /// A call that reads rows, its refusal, where it looks for which entry, and the reasons that it can give.
-const CALLS: [(Call, u32, Buffer, u32, [Flaw; 2]); 5] = [
+const CALLS: [(Call, u32, Buffer, u32, [Flaw; 2]); 6] = [
     (Call::RecoveryStart, 2, Buffer::Medium, 14, [Flaw::UnknownKind, Flaw::NewLeft]),
+    (Call::Commit, 7, Buffer::Waiting, 16, [Flaw::OtherNumber, Flaw::NewLeft]),
     (Call::Force, 7, Buffer::Waiting, 16, [Flaw::OtherNumber, Flaw::NewLeft]),
     (Call::Cut { p: 15 }, 7, Buffer::Medium, 15, [Flaw::OtherNumber, Flaw::NewLeft]),
     (Call::Abort, 7, Buffer::Waiting, 16, [Flaw::OtherNumber, Flaw::NotAnUpdate]),
@@ -141,8 +142,10 @@ fn the_lowest_bad_row_is_named() {
     for call in [Call::Abort, Call::Begin] {
         assert_eq!(named(&desk, call), (7, BadRow { reason: 9, entry: 17 }));
     }
+    // An end among the rows is an entry: commit stores it.
+    assert_eq!(named(&desk, Call::Commit), (7, BadRow { reason: 2, entry: 18 }));
     put(&mut desk, Buffer::Waiting, 16, spoiled(16, [Flaw::NewLeft; 2], 3, 0));
-    for call in [Call::Abort, Call::Begin, Call::Force] {
+    for call in [Call::Abort, Call::Begin, Call::Commit, Call::Force] {
         assert_eq!(named(&desk, call), (7, BadRow { reason: 8, entry: 16 }));
     }
     for number in [16, 17] {
@@ -163,7 +166,7 @@ fn a_row_past_the_journal_is_not_judged() {
 #[test]
 fn no_row_is_named_beside_another_answer() {
     let mut desk = desk();
-    for call in [Call::RecoveryStart, Call::Begin, Call::Abort, Call::Force, Call::Cut { p: 15 }] {
+    for call in [Call::RecoveryStart, Call::Begin, Call::Commit, Call::Abort, Call::Force, Call::Cut { p: 15 }] {
         assert_eq!(named(&desk, call), (0, NONE), "{call}");
     }
     assert_eq!(named(&desk, Call::Cut { p: 14 }), (9, NONE));
@@ -176,7 +179,7 @@ fn no_row_is_named_beside_another_answer() {
     Event::State(State { l: 21, ..OPEN }.numbers()).disturb(&mut desk);
     assert_eq!(named(&desk, Call::Begin), (1, NONE));
     Event::State(State { f: 18, o: 18, phase: Phase::Recovering, ..OPEN }.numbers()).disturb(&mut desk);
-    for call in [Call::Begin, Call::Abort, Call::Force, Call::Cut { p: 15 }] {
+    for call in [Call::Begin, Call::Commit, Call::Abort, Call::Force, Call::Cut { p: 15 }] {
         assert_eq!(named(&desk, call), (10, NONE), "{call}");
     }
 }

@@ -3,7 +3,7 @@
 //! After every call both answers, with the bad row that they name, both states and every byte of every buffer must be equal.
 //! The directed histories come first, then random ones until N calls were compared; last, Q questions at the counter, on drawn
 //! tables and spans. A difference ends the run with a shortened history; so does, at the end, an allowed answer or reason that
-//! was never reached. With --fault K (1 to 30) the second program goes wrong in that way, and the run must find it: it then ends
+//! was never reached. With --fault K (1 to 39) the second program goes wrong in that way, and the run must find it: it then ends
 //! with 0 where a difference was found. Built without the feature `library` the second program stands in for the library.
 
 use second::counting::{self, Question, Told, Wrong};
@@ -54,7 +54,10 @@ const USAGE: &str = "compare [--seed S] [--calls N] [--questions Q] [--fault K]
      16 abort names the highest, 17 recovery start names the highest, 18 entry off by one, 19 a reason beside 9,
      20 reason and entry unwritten; of a hole 21 the last place not searched, 22 searched past h+C, 23 past M, 24 a stale
      row counts, 25 a number in another's place counts, 26 only a row that reads counts, 27 named at the later row,
-     28 after a malformed later row, 29 before a malformed earlier one, 30 the journal ends there";
+     28 after a malformed later row, 29 before a malformed earlier one, 30 the journal ends there; of a commit 31 its own
+     row alone stored, 32 its own row left to force, 33 rows before a bad one stored, 34 its waiting row left when refused,
+     35 the highest bad row named, 36 the number before its own, 37 rows judged before 3, 38 no row judged, 39 the open
+     transaction's rows judged";
 
 fn options() -> Result<Options, String> {
     let mut options = Options { seed: 1, calls: 1_000_000, questions: 1_000_000, fault: Fault::None, wrong: None };
@@ -79,7 +82,8 @@ fn fault(number: usize) -> Option<(Fault, Option<Wrong>)> {
         1..7 => (fault::OF_THE_PAPER[number - 1], None),
         7..13 => (Fault::None, Some(counting::WRONG[number - 7])),
         13..21 => (fault::OF_NAMING[number - 13], None),
-        _ => (*fault::OF_HOLES.get(number - 21)?, None),
+        21..31 => (fault::OF_HOLES[number - 21], None),
+        _ => (*fault::OF_COMMIT.get(number - 31)?, None),
     })
 }
 
