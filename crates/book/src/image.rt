@@ -1,4 +1,4 @@
-// Media as bytes: copying one, and how many of head, rows and cells differ between two.
+// Media as bytes: copying one or a part of it, and how many of head, rows and cells differ between two.
 ghost use Prim.Native.Nat.{_<_, _≤_};
 
 pub fn least(a: usize, most: usize) -> usize
@@ -24,9 +24,13 @@ fn put(s: &mut [u8], i: usize, x: u8) {
 }
 
 pub fn copy(from: &[u8], to: &mut [u8]) {
-    let n = from.len();
-    let mut i = 0;
-    while i < n {
+    bring(from, to, 0, from.len());
+}
+
+// The bytes from `at` on, to before `end`, copied to the same place.
+pub fn bring(from: &[u8], to: &mut [u8], at: usize, end: usize) {
+    let mut i = at;
+    while i < end {
         put(to, i, byte(from, i));
         i += 1;
     }

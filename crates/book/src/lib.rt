@@ -5,13 +5,14 @@
 //   0           the generator's last number
 //   1 to 8      tallies: what was tried, and what differed
 //   9           how many writes of this life are listed
-//   10, 11      tallies: rows lost before others, and last rows lost
+//   10, 11, 12  tallies: rows lost before others, last rows lost, and histories in which something differed
+//   13, 14      a call that is likely next and the cell of the last write, each with 1 added; 0 for none
 //   32 + cell   the table as the stored transactions left it
 //   64 + i      write i's cell
 //   192 + i     write i's value
 //   320 + i     write i's tag: OPEN, the number that its commit answered, or GONE (aborted, or stored and in the table)
 //
-// A transaction counts as stored when force answers the number that its commit had answered; nothing here reads a row.
+// A transaction counts as stored when the row of the number that its commit answered is; nothing here reads a row.
 pub mod image;
 
 ghost use Prim.Native.Nat.{_<_, _≤_};
@@ -39,6 +40,12 @@ const USED: usize = 9;
 pub const HOLES: usize = 10;
 
 pub const ENDS: usize = 11;
+
+pub const STRUCK: usize = 12;
+
+pub const LIKELY: usize = 13;
+
+const WRITTEN: usize = 14;
 
 const TABLE: usize = 32;
 
@@ -143,7 +150,20 @@ pub fn wrote(book: &mut [u64], cell: u32, value: u64) {
     set(book, place(CELL, i), cell as u64);
     set(book, place(VALUE, i), value);
     set(book, place(TAG, i), OPEN);
+    set(book, WRITTEN, cell as u64 + 1);
     count(book, USED);
+}
+
+// The cell of the last write, or the one that was drawn.
+pub fn last_written(book: &[u64], drawn: u32) -> u32 {
+    let cell = get(book, WRITTEN);
+    if cell == 0 {
+        return drawn;
+    }
+    if 1024 < cell {
+        return drawn;
+    }
+    cell as u32 - 1
 }
 
 fn retag_one(book: &mut [u64], i: usize, from: u64, to: u64) {
@@ -180,7 +200,7 @@ fn keep_one(book: &mut [u64], i: usize, n: u64) {
     }
 }
 
-// Force answered n: a transaction whose commit had answered n is stored, and the table has its writes.
+// Entry n's row is stored: a transaction whose commit had answered n now counts, and the table has its writes.
 pub fn forced(book: &mut [u64], n: u64) {
     let m = used(book);
     let mut i = 0;
@@ -237,6 +257,8 @@ fn clear_one(book: &mut [u64], i: usize) {
 // A new medium: an empty table and no writes.
 pub fn fresh(book: &mut [u64]) {
     forget(book);
+    set(book, LIKELY, 0);
+    set(book, WRITTEN, 0);
     let mut i: usize = 0;
     while i < 32 {
         clear_one(book, i);

@@ -67,9 +67,8 @@ module _ (xs m c f l w : List ℕ) (t : Bool) (e : t ≡ isState xs) where
   module _ (which : Call) where
     -- what is told of rows
     pub tells-crossed : t ≡ true → (s : code.State) → stateOf (s .numbers) (s .phase) ≡ seven xs → (wrong : Fault) → wrong ≡ told which (handed s m c f l w)
-        → (reason entry : ℕ) → reason ≡ faultReason wrong → entry ≡ faultEntry wrong → Tells (told which (lentOver xs m c f l w)) reason entry
-    tells-crossed p s q wrong d reason entry x y =
-        let z = d ∙ ap (told which) (lent-state p s q) in (x ∙ ap faultReason z, y ∙ ap faultEntry z)
+        → (reason entry : ℕ) → Tells wrong reason entry → Tells (told which (lentOver xs m c f l w)) reason entry
+    tells-crossed p s q wrong d reason entry x = let z = d ∙ ap (told which) (lent-state p s q) in (x .0 ∙ ap faultReason z, x .1 ∙ ap faultEntry z)
 
     pub no-state-tells : t ≡ false → takesState which → Tells (told which (lentOver xs m c f l w)) 0 0
     no-state-tells p x =
@@ -86,10 +85,10 @@ module _ (xs m c f l w : List ℕ) where
   start-other h = (simp (ne-eqb (length xs) 7 h), (simp (ne-eqb (length xs) 7 h), simp (ne-eqb (length xs) 7 h)))
 
   pub start-tells : length xs ≡ 7 → (wrong : Fault) → wrong ≡ told RecoveryStart (stateless m c f l w)
-      → (reason entry : ℕ) → reason ≡ faultReason wrong → entry ≡ faultEntry wrong → Tells (startTold xs m c f l w) reason entry
+      → (reason entry : ℕ) → Tells wrong reason entry → Tells (startTold xs m c f l w) reason entry
   unfolding startTold stateless
-  start-tells h wrong d reason entry x y =
-      let z : wrong ≡ startTold xs m c f l w = d ∙ simp (eq-eqb (length xs) 7 h) in (x ∙ ap faultReason z, y ∙ ap faultEntry z)
+  start-tells h wrong d reason entry x =
+      let z : wrong ≡ startTold xs m c f l w = d ∙ simp (eq-eqb (length xs) 7 h) in (x .0 ∙ ap faultReason z, x .1 ∙ ap faultEntry z)
 
   pub start-crossed : length xs ≡ 7 → (next : code.State) (a : Answer) (m2 c2 f2 l2 w2 : List ℕ) (number : ℕ) (ys : List ℕ)
       → leaves a next m2 c2 f2 l2 w2 ≡ act RecoveryStart (stateless m c f l w) → number ≡ refusalOf a → ys ≡ numbersOf (stateOf (next .numbers) (next .phase))

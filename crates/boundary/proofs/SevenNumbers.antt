@@ -1,6 +1,6 @@
 -- The state and its seven numbers: one law for each exit of the functions between them, and that each gives the other back.
 use Prim.Native.Nat.{ℕ, zero, suc, _≤_, _<_}
-use mathlib.Core.Path.{_≡_, refl, sym, ap, _∙_}
+use mathlib.Core.Path.{_≡_, refl, sym, ap, subst, _∙_}
 use mathlib.Core.Bool.{Bool, true, false}
 use mathlib.Core.List.{List, [], _∷_}
 use mathlib.Core.Option.{none, some}
@@ -9,13 +9,13 @@ use borrow.Author.Tests.{eq-eqb, ne-eqb, le-leb, lt-leb, eqb-true, leb-true}
 use lib.Dec.{eqb, leb}
 use lib.ListN.{length, getD, set}
 use Rattle.scope.specs.Bytes.{pick}
-use Rattle.scope.specs.Keeper.{Phase, idle, run, recovering, State}
+use Rattle.scope.specs.Keeper.{Phase, idle, run, recovering, State, madeTo}
 use Rattle.state.specs.State.{stateOf}
 use Rattle.state.specs.declared.Phase as code
 use Rattle.state.specs.declared.Phase.the-variants.{Idle, Run, Recovering}
 use Rattle.state.proofs.Facts.{and-left, and-right}
 use Rattle.boundary.specs.Boundary.{phaseNo, phaseIn, numbersOf, isState, seven, stateHeld, stateIn}
-use Rattle.boundary.specs.Held.{heldIn}
+use Rattle.boundary.specs.Held.{heldIn, made, committed, HasRest}
 use Rattle.boundary.specs.declared.numbers.Held as held
 use Rattle.boundary.specs.declared.numbers.Held.the-variants as variants
 use Rattle.keeper.specs.declared.State as keeper
@@ -49,6 +49,10 @@ module _ (s : List ℕ) where
 
 -- what the code's answer says of the slice
 
+pub is-long : (s : List ℕ) → isState s ≡ true → length s ≡ 7
+unfolding isState
+is-long s i = eqb-true (length s) 7 (and-left (eqb (length s) 7) (leb (getD s 6 0) 2) i)
+
 pub record Holds (s : List ℕ) (x : State) : Type 0 where
   pub is-state : isState s ≡ true
   pub is-seven : length s ≡ 7
@@ -68,7 +72,7 @@ module _ (r : held.Held) (s : List ℕ) (e : heldIn r ≡ stateHeld s) where
   holds-state x p = go (isState s) refl (sym (ap heldIn p) ∙ e)
     where
       go : (t : Bool) → isState s ≡ t → some (stateOf (x .numbers) (x .phase)) ≡ pick t (some (seven s)) none → Holds s (stateOf (x .numbers) (x .phase))
-      go true i q = record { is-state = i; is-seven = eqb-true (length s) 7 (and-left (eqb (length s) 7) (leb (getD s 6 0) 2) i); read = cc }
+      go true i q = record { is-state = i; is-seven = is-long s i; read = cc }
       go false i q = let z : _≡_ {A = ℕ} 0 1 = cc in absurd (omega arith)
 
 -- seven numbers, one by one
@@ -84,14 +88,9 @@ as-seven (x ∷ x2 ∷ x3 ∷ x4 ∷ x5 ∷ x6 ∷ []) n = absurd (omega arith)
 as-seven (x ∷ x2 ∷ x3 ∷ x4 ∷ x5 ∷ x6 ∷ x7 ∷ []) n = refl
 as-seven (x ∷ x2 ∷ x3 ∷ x4 ∷ x5 ∷ x6 ∷ x7 ∷ x8 ∷ xs) n = absurd (omega arith)
 
-module _ (s : List ℕ) (n : length s ≡ 7) where
-  -- all stored
-  pub stored-seven : (a b c d e f g : ℕ) → set (set (set (set (set (set (set s 0 a) 1 b) 2 c) 3 d) 4 e) 5 f) 6 g ≡ a ∷ b ∷ c ∷ d ∷ e ∷ f ∷ g ∷ []
-  stored-seven a b c d e f g = ap (λ x. set (set (set (set (set (set (set x 0 a) 1 b) 2 c) 3 d) 4 e) 5 f) 6 g) (as-seven s n)
-
-  -- the last three stored
-  pub stored-three : (e f g : ℕ) → set (set (set s 4 e) 5 f) 6 g ≡ getD s 0 0 ∷ getD s 1 0 ∷ getD s 2 0 ∷ getD s 3 0 ∷ e ∷ f ∷ g ∷ []
-  stored-three e f g = ap (λ x. set (set (set x 4 e) 5 f) 6 g) (as-seven s n)
+pub stored-seven : (s : List ℕ) → length s ≡ 7 → (a b c d e f g : ℕ)
+    → set (set (set (set (set (set (set s 0 a) 1 b) 2 c) 3 d) 4 e) 5 f) 6 g ≡ a ∷ b ∷ c ∷ d ∷ e ∷ f ∷ g ∷ []
+stored-seven s n a b c d e f g = ap (λ x. set (set (set (set (set (set (set x 0 a) 1 b) 2 c) 3 d) 4 e) 5 f) 6 g) (as-seven s n)
 
 -- a state's numbers are read as that state
 
@@ -122,6 +121,16 @@ numbers-back s n h =
 
 pub put-back : (s : List ℕ) → isState s ≡ true → numbersOf (seven s) ≡ s
 unfolding isState
-put-back s i =
-    numbers-back s (eqb-true (length s) 7 (and-left (eqb (length s) 7) (leb (getD s 6 0) 2) i))
-    (leb-true (getD s 6 0) 2 (and-right (eqb (length s) 7) (leb (getD s 6 0) 2) i))
+put-back s i = numbers-back s (is-long s i) (leb-true (getD s 6 0) 2 (and-right (eqb (length s) 7) (leb (getD s 6 0) 2) i))
+
+-- so it is enough to put the numbers that a call changed
+pub put-changed : (changed : State → State → State) (put : List ℕ → List ℕ) (s : List ℕ) (t : State) → HasRest changed s t
+    → put (numbersOf (seven s)) ≡ numbersOf (changed t (seven s)) → put s ≡ numbersOf t
+put-changed changed put s t h e = ap put (sym (put-back s (h .is-state))) ∙ e ∙ sym (ap numbersOf (h .rest))
+
+-- a commit's: f is put, and then what making an entry changes
+pub committed-rest : (s : List ℕ) (t : State) → HasRest committed s t → HasRest made (set s 3 (t .f)) t
+unfolding isState seven madeTo
+committed-rest s t h =
+    let e = as-seven s (is-long s (h .is-state)) in
+    subst (λ x. HasRest made (set x 3 (t .f)) t) (sym e) (record { is-state = ap isState (sym e) ∙ h .is-state; rest = h .rest })

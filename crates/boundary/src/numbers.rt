@@ -8,8 +8,8 @@ ghost use Rattle.row.specs.Row as rows;
 ghost use Rattle.state.specs.State.{phaseOf, stateOf};
 ghost use Rattle.recovery.specs.Answers.{stepped};
 ghost use Rattle.keeper.specs.Answers.{answered, writtenBack};
-ghost use Rattle.boundary.specs.Boundary.{phaseNo, numbersOf, stateHeld, stepValue, backValue};
-ghost use Rattle.boundary.specs.Held.{heldIn, Begins};
+ghost use Rattle.boundary.specs.Boundary.{phaseNo, numbersOf, stateHeld, stepValue, backValue, Tells};
+ghost use Rattle.boundary.specs.Held.{heldIn, made, stored, committed, dropped, HasRest};
 use keeper::Answer;
 use keeper::Back;
 use keeper::State;
@@ -83,9 +83,9 @@ pub fn put_state(s: &mut [u32], state: State)
     s[6] = phase_number(phase);
 }
 
-// The numbers that making an entry changes, l, o and the phase, put back beside those that stay.
+// The numbers that making an entry changes, l, o and the phase, put back beside those that stand there.
 pub fn put_made(s: &mut [u32], state: State)
-    requires { ⌜ Begins (now s) (state .numbers) ⌝ }
+    requires { ⌜ HasRest made (now s) (stateOf (state .numbers) (state .phase)) ⌝ }
     ensures { λ _. ⌜ now (s .exit) ≡ numbersOf (stateOf (state .numbers) (state .phase)) ⌝ }
 {
     let numbers = state.numbers;
@@ -93,6 +93,32 @@ pub fn put_made(s: &mut [u32], state: State)
     s[4] = numbers.l;
     s[5] = numbers.o;
     s[6] = phase_number(phase);
+}
+
+// The number that force changes: f.
+pub fn put_stored(s: &mut [u32], state: State)
+    requires { ⌜ HasRest stored (now s) (stateOf (state .numbers) (state .phase)) ⌝ }
+    ensures { λ _. ⌜ now (s .exit) ≡ numbersOf (stateOf (state .numbers) (state .phase)) ⌝ }
+{
+    s[3] = state.numbers.f;
+}
+
+// The numbers that a commit changes, which makes an entry and stores: f, l, o and the phase.
+pub fn put_committed(s: &mut [u32], state: State)
+    requires { ⌜ HasRest committed (now s) (stateOf (state .numbers) (state .phase)) ⌝ }
+    ensures { λ _. ⌜ now (s .exit) ≡ numbersOf (stateOf (state .numbers) (state .phase)) ⌝ }
+{
+    let numbers = state.numbers;
+    s[3] = numbers.f;
+    put_made(s, state);
+}
+
+// The number that a cut changes: h.
+pub fn put_dropped(s: &mut [u32], state: State)
+    requires { ⌜ HasRest dropped (now s) (stateOf (state .numbers) (state .phase)) ⌝ }
+    ensures { λ _. ⌜ now (s .exit) ≡ numbersOf (stateOf (state .numbers) (state .phase)) ⌝ }
+{
+    s[2] = state.numbers.h;
 }
 
 pub fn number_of(answer: Answer) -> u32
@@ -174,7 +200,7 @@ pub fn reason_number(reason: Reason) -> u32
     }
 }
 
-pub fn fault_reason(fault: Fault) -> u32
+fn fault_reason(fault: Fault) -> u32
     ensures { λ r. ⌜ r ≡ faultReason (faultOf fault) ⌝ }
 {
     match fault {
@@ -183,11 +209,19 @@ pub fn fault_reason(fault: Fault) -> u32
     }
 }
 
-pub fn fault_entry(fault: Fault) -> u32
+fn fault_entry(fault: Fault) -> u32
     ensures { λ r. ⌜ r ≡ faultEntry (faultOf fault) ⌝ }
 {
     match fault {
         Fault::None => 0,
         Fault::At { reason: _, entry } => entry,
     }
+}
+
+// What is wrong with a row, put where the host says: the reason's number, 0 for none, and the entry's.
+pub fn tell(fault: Fault, reason: &mut u32, entry: &mut u32)
+    ensures { λ _. ⌜ Tells (faultOf fault) (now (reason .exit)) (now (entry .exit)) ⌝ }
+{
+    *reason = fault_reason(fault);
+    *entry = fault_entry(fault);
 }

@@ -4,13 +4,12 @@ ghost use mathlib.Core.List.{[]};
 ghost use Rattle.scope.specs.Refusals.{RecoveryStep};
 ghost use Rattle.boundary.specs.Boundary.{stepValue, result, over, startOver, startTold, Tells};
 use crate::numbers::Held;
-use crate::numbers::fault_entry;
-use crate::numbers::fault_reason;
 use crate::numbers::number_of;
 use crate::numbers::put_state;
 use crate::numbers::state_in;
 use crate::numbers::step_number;
 use crate::numbers::step_value;
+use crate::numbers::tell;
 use keeper::State;
 
 #[no_mangle]
@@ -36,8 +35,7 @@ pub extern "C" fn keeper_recovery_start(
     }
     let out = State::recovery_start(medium, current, first, last, waiting);
     let fault = out.fault;
-    *reason = fault_reason(fault);
-    *entry = fault_entry(fault);
+    tell(fault, reason, entry);
     let next = out.state;
     put_state(state, next);
     let answer = out.answer;

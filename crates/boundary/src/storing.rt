@@ -9,11 +9,12 @@ ghost use Rattle.boundary.specs.Boundary.{noValue, backValue, result, ov
 use crate::numbers::Held;
 use crate::numbers::back_number;
 use crate::numbers::back_value;
-use crate::numbers::fault_entry;
-use crate::numbers::fault_reason;
 use crate::numbers::number_of;
+use crate::numbers::put_dropped;
 use crate::numbers::put_state;
+use crate::numbers::put_stored;
 use crate::numbers::state_in;
+use crate::numbers::tell;
 use crate::numbers::value_of;
 use keeper::Answer;
 
@@ -49,15 +50,14 @@ pub extern "C" fn keeper_force(
     let answer = out.answer;
     if let Answer::Refused(number) = answer {
         let fault = out.fault;
-        *reason = fault_reason(fault);
-        *entry = fault_entry(fault);
+        tell(fault, reason, entry);
         *value = 0;
         return number;
     }
     *reason = 0;
     *entry = 0;
     let next = out.state;
-    put_state(state, next);
+    put_stored(state, next);
     *value = value_of(answer);
     number_of(answer)
 }
@@ -111,13 +111,12 @@ pub extern "C" fn keeper_cut(
     let answer = out.answer;
     if let Answer::Refused(number) = answer {
         let fault = out.fault;
-        *reason = fault_reason(fault);
-        *entry = fault_entry(fault);
+        tell(fault, reason, entry);
         return number;
     }
     *reason = 0;
     *entry = 0;
     let next = out.state;
-    put_state(state, next);
+    put_dropped(state, next);
     number_of(answer)
 }

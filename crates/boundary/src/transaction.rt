@@ -5,12 +5,12 @@ ghost use Rattle.scope.specs.Keeper.{valueOf};
 ghost use Rattle.scope.specs.Refusals.{Begin, Read, Write, Commit, Abort, told};
 ghost use Rattle.boundary.specs.Boundary.{noValue, result, over, lentOver, Tells};
 use crate::numbers::Held;
-use crate::numbers::fault_entry;
-use crate::numbers::fault_reason;
 use crate::numbers::number_of;
+use crate::numbers::put_committed;
 use crate::numbers::put_made;
 use crate::numbers::put_state;
 use crate::numbers::state_in;
+use crate::numbers::tell;
 use crate::numbers::value_of;
 use keeper::Answer;
 
@@ -38,14 +38,13 @@ pub extern "C" fn keeper_begin(
     let answer = out.answer;
     if let Answer::Refused(number) = answer {
         let fault = out.fault;
-        *reason = fault_reason(fault);
-        *entry = fault_entry(fault);
+        tell(fault, reason, entry);
         return number;
     }
     *reason = 0;
     *entry = 0;
     let next = out.state;
-    put_state(state, next);
+    put_made(state, next);
     number_of(answer)
 }
 
@@ -92,23 +91,37 @@ pub extern "C" fn keeper_write(
 }
 
 #[no_mangle]
-pub extern "C" fn keeper_commit(state: &mut [u32], waiting: &mut [u8], value: &mut u64) -> u32
+pub extern "C" fn keeper_commit(
+    state: &mut [u32],
+    medium: &mut [u8],
+    waiting: &mut [u8],
+    value: &mut u64,
+    reason: &mut u32,
+    entry: &mut u32,
+) -> u32
     ensures { λ r.
-        let after = result r (now (value .exit)) (now (state .exit)) [] [] [] [] (now (waiting .exit)) in
-        ⌜ after ≡ over valueOf Commit (now (state .entry)) [] [] [] [] (now (waiting .entry)) ⌝ }
+        let after = result r (now (value .exit)) (now (state .exit)) (now (medium .exit)) [] [] [] (now (waiting .exit)) in
+        let wrong = told Commit (lentOver (now (state .entry)) (now (medium .entry)) [] [] [] (now (waiting .entry))) in
+        ⌜ (after ≡ over valueOf Commit (now (state .entry)) (now (medium .entry)) [] [] [] (now (waiting .entry))) × Tells wrong (now (reason .exit)) (now (entry .exit)) ⌝ }
 {
     let Held::State(s) = state_in(state) else {
         *value = 0;
+        *reason = 0;
+        *entry = 0;
         return 1;
     };
-    let out = s.commit(waiting);
+    let out = s.commit(medium, waiting);
     let answer = out.answer;
     if let Answer::Refused(number) = answer {
+        let fault = out.fault;
+        tell(fault, reason, entry);
         *value = 0;
         return number;
     }
+    *reason = 0;
+    *entry = 0;
     let next = out.state;
-    put_made(state, next);
+    put_committed(state, next);
     *value = value_of(answer);
     number_of(answer)
 }
@@ -137,13 +150,12 @@ pub extern "C" fn keeper_abort(
     let answer = out.answer;
     if let Answer::Refused(number) = answer {
         let fault = out.fault;
-        *reason = fault_reason(fault);
-        *entry = fault_entry(fault);
+        tell(fault, reason, entry);
         return number;
     }
     *reason = 0;
     *entry = 0;
     let next = out.state;
-    put_state(state, next);
+    put_made(state, next);
     number_of(answer)
 }

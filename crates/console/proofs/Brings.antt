@@ -12,8 +12,8 @@ use lib.ListN.{length, take, drop, getD}
 use Rattle.scope.specs.Bytes.{pick, bytesOf, put}
 use Rattle.scope.specs.Keeper.{Keeper, Outcome, done, refused, head, clean, stored, idle, valueOf, mediumLength, rowAt, cellAt, waitingRow, headBytes, withState, withMedium, madeTo, storedNext, droppedTo, storeCell, storeHead}
 use Rattle.scope.specs.Recovery.{tableOf, differing}
-use Rattle.scope.specs.Refusals.{Call, RecoveryStart, RecoveryStep, Begin, Commit, Abort, Force, Read, WriteBack, Cut, Write, isMedium, isRows, lent, unfit, tests, refusal}
-use Rattle.scope.specs.Calls.{unless, stepAt, cleaned, act, performed, unchanged}
+use Rattle.scope.specs.Refusals.{Call, RecoveryStart, RecoveryStep, Begin, Abort, Force, Read, WriteBack, Cut, Write, isMedium, isRows, lent, unfit, tests, refusal}
+use Rattle.scope.specs.Calls.{forced, unless, stepAt, cleaned, act, performed, unchanged}
 use Rattle.scope.proofs.Bytes.{put-same, length-row, length-bytesOf}
 use Rattle.scope.proofs.Refusals.{refusal-none}
 use Rattle.scope.proofs.Represents.{and-true}
@@ -45,10 +45,6 @@ brings-abort k = ap (λ (o : Outcome). o .keeper .medium) (frame Abort k k)
 pub brings-write : (c v : ℕ) (k : Keeper) → Brings nowhere k (act (Write c v) k)
 unfolding put withMedium
 brings-write c v k = ap (λ (o : Outcome). o .keeper .medium) (frame (Write c v) k k)
-
-pub brings-commit : (k : Keeper) → Brings nowhere k (act Commit k)
-unfolding put
-brings-commit k = ap (λ (o : Outcome). o .keeper .medium) (frame Commit k k)
 
 pub brings-read : (c : ℕ) (k : Keeper) → Brings nowhere k (act (Read c) k)
 unfolding put
@@ -132,14 +128,11 @@ module _ (k : Keeper) where
   forces : Bool → Outcome
   forces b =
       pick b
-      (record {
-        answer = done (k .state .f + 1);
-        keeper = withState (storedNext (k .state)) (withMedium (put (k .medium) (32 + rowAt C (k .state .f + 1)) (waitingRow k (k .state .f + 1))) k);
-      })
+      (record { answer = done (k .state .f + 1); keeper = forced k })
       (record { answer = done 0; keeper = k })
 
   pub brings-force : Brings (placeOf Force C (act Force k .answer)) k (act Force k)
-  unfolding act performed forces tests lent put withState withMedium
+  unfolding act performed forces forced tests lent put withState withMedium
   brings-force = unless-brings Force (forces (ltb (k .state .f) (k .state .l))) (λ n. refl) (λ e. go (refusal-none Force k e .0) (ltb (k .state .f) (k .state .l)))
     where
       go : unfit Force k ≡ false → (b : Bool) → Brings (forcePlace C (forces b .answer)) k (forces b)

@@ -1,3 +1,4 @@
 pub mod Brings
+pub mod CommitRows
 pub mod Making
 pub mod Telling

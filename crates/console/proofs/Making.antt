@@ -20,8 +20,9 @@ use Rattle.keeper.specs.Answers.{handed, leaves}
 use Rattle.keeper.specs.declared.State.{State}
 use Rattle.console.specs.declared.Asked.{Asked}
 use Rattle.console.specs.declared.Did.{Did}
-use Rattle.console.specs.Made.{Place, numberedCall, callOf, nowhere, forcePlace, placeOf, didOf, Made}
-use Rattle.console.proofs.Brings.{Brings, brings-begin, brings-abort, brings-write, brings-commit, brings-read, brings-start, brings-cut, brings-back, brings-force, brings-step, force-slots}
+use Rattle.console.specs.Made.{Place, numberedCall, callOf, nowhere, forcePlace, placeOf, didOf, brought, Made}
+use Rattle.console.proofs.Brings.{Brings, brings-begin, brings-abort, brings-write, brings-read, brings-start, brings-cut, brings-back, brings-force, brings-step, force-slots}
+use Rattle.console.proofs.CommitRows.{brings-commit}
 use Rattle.console.proofs.Telling.{tells-frame, start-tells, back-silent, step-silent}
 
 -- which call a number asks for
@@ -74,6 +75,10 @@ Ensured a k o t = (o ≡ act a k) × (faultOf t ≡ told a k)
 framed : (a : Call) (g k : Keeper) (o : Outcome) (t : Fault) → Ensured a k o t → Ensured a (onto a g k) (passed a g o) t
 framed a g k o t e = (ap (passed a g) (e .0) ∙ sym (frame a g k), e .1 ∙ sym (tells-frame a g k))
 
+-- the medium after a call is brought from itself
+abbrev BringsTo : Call → Keeper → Outcome → Type 0
+BringsTo a k o = o .keeper .medium ≡ brought a k (o .answer) (placeOf a (k .state .slots) (o .answer)) (o .keeper .medium)
+
 -- what a call did, by its own state and fault
 itself : (x : Answer) (t : Fault) (s : State) (p : Place) (d : Did) → d ≡ didOf x t s p → d ≡ didOf x (d .fault) (d .state) p
 itself x t s p d r = subst (λ (z : Did). z ≡ didOf x (z .fault) (z .state) p) (sym r) refl
@@ -85,7 +90,7 @@ module _ (asked : Asked) (s next : State) (m c f l w m2 c2 f2 l2 w2 : List ℕ) 
   abbrev after : Keeper
   after = handed (d .state) m2 c2 f2 l2 w2
 
-  made : (a : Call) → callOf asked ≡ a → Brings (placeOf a (s .numbers .slots) (act a before .answer)) before (act a before)
+  made : (a : Call) → callOf asked ≡ a → BringsTo a before (act a before)
       → Ensured a before (leaves x next m2 c2 f2 l2 w2) t → d ≡ didOf x t next (placeOf a (s .numbers .slots) x)
       → Made (callOf asked) before d after
   unfolding handed leaves lentTo stateOf
@@ -97,9 +102,10 @@ module _ (asked : Asked) (s next : State) (m c f l w m2 c2 f2 l2 w2 : List ℕ) 
             subst (λ (o : Outcome). d ≡ didOf (o .answer) (d .fault) (d .state) (placeOf a (s .numbers .slots) (o .answer))) (e .0)
             (itself x t next (placeOf a (s .numbers .slots) x) d r);
         tells = subst (λ (z : Did). faultOf (z .fault) ≡ told a before) (sym r) (e .1);
-        brought =
-            subst (λ (z : Did). m2 ≡ put m (z .at) (take (z .size) (drop (z .at) m2))) (sym r)
-            (subst (λ (o : Outcome). Brings (placeOf a (s .numbers .slots) (o .answer)) before o) (sym (e .0)) b);
+        brings =
+            subst (λ (z : Did). m2 ≡ brought a before (act a before .answer) (record { at = z .at; size = z .size }) m2) (sym r)
+            (subst (λ (o : Outcome). m2 ≡ brought a before (o .answer) (placeOf a (s .numbers .slots) x) m2) (e .0)
+            (subst (λ (o : Outcome). BringsTo a before o) (sym (e .0)) b));
       })
 
 -- call by call: what the keeper's method ensures, and what its answer was turned into
@@ -126,11 +132,11 @@ module _ (asked : Asked) (s next : State) (m c f l w : List ℕ) (x : Answer) (d
   abort-made c2 f2 l2 w2 t n e r =
       made asked s next m c f l w m c2 f2 l2 w2 x t d Abort (numbered asked 2 n) (brings-abort k) (framed Abort k (handed s [] c f l w) _ t e) r
 
-  pub commit-made : (w2 : List ℕ) (t : Fault) → asked .call ≡ 3 → Ensured Commit (handed s [] [] [] [] w) (leaves x next [] [] [] [] w2) t → d ≡ didOf x t next nowhere
-      → Made (callOf asked) k d (handed (d .state) m c f l w2)
-  unfolding numberedCall act handed leaves lentTo
-  commit-made w2 t n e r =
-      made asked s next m c f l w m c f l w2 x t d Commit (numbered asked 3 n) (brings-commit k) (framed Commit k (handed s [] [] [] [] w) _ t e) r
+  pub commit-made : (m2 w2 : List ℕ) (t : Fault) → asked .call ≡ 3 → Ensured Commit (handed s m [] [] [] w) (leaves x next m2 [] [] [] w2) t → d ≡ didOf x t next nowhere
+      → Made (callOf asked) k d (handed (d .state) m2 c f l w2)
+  unfolding numberedCall act handed leaves lentTo stateOf
+  commit-made m2 w2 t n e r =
+      made asked s next m c f l w m2 c f l w2 x t d Commit (numbered asked 3 n) (brings-commit k) (framed Commit k (handed s m [] [] [] w) _ t e) r
 
   pub read-made : (t : Fault) → asked .call ≡ 4 → Ensured (Read (asked .cell)) (handed s [] c [] [] []) (leaves x next [] c [] [] []) t → d ≡ didOf x t next nowhere
       → Made (callOf asked) k d (handed (d .state) m c f l w)

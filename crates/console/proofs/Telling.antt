@@ -6,7 +6,7 @@ use lib.Dec.{eqb}
 use Rattle.scope.specs.Bytes.{pick}
 use Rattle.scope.specs.Row.{faultless}
 use Rattle.scope.specs.Keeper.{Keeper, State, Outcome, refusalOf, waitingRow, mediumRow, withState, withMedium, withWaiting}
-use Rattle.scope.specs.Refusals.{Call, Format, RecoveryStart, RecoveryStep, Begin, Commit, Abort, Force, TableView, Read, WriteBack, Cut, Look, Write, lent, lentStart, unfit, tests, refusal, openFault, badRow, told}
+use Rattle.scope.specs.Refusals.{Call, Format, RecoveryStart, RecoveryStep, Begin, Commit, Abort, Force, TableView, Read, WriteBack, Cut, Look, Write, lent, lentStart, unfit, tests, refusal, openFault, waitingFault, badRow, told}
 use Rattle.scope.specs.Calls.{unless, act, performed, unchanged}
 use Rattle.scope.proofs.Frames.{onto, frame}
 
@@ -30,12 +30,12 @@ tells-by a g k e b =
 
 -- ONE LAW FOR ALL CALLS
 pub tells-frame : (a : Call) (g k : Keeper) → told a (onto a g k) ≡ told a k
-unfolding refusal tests unfit lent badRow openFault performed waitingRow mediumRow withMedium withWaiting
+unfolding refusal tests unfit lent badRow openFault waitingFault performed waitingRow mediumRow withMedium withWaiting
 tells-frame (Format n c) g k = tells-by (Format n c) g k refl refl
 tells-frame RecoveryStart g k = refl
 tells-frame RecoveryStep g k = tells-by RecoveryStep g k refl refl
 tells-frame Begin g k = tells-by Begin g k (same-refusal Begin g k (λ x. refl)) refl
-tells-frame Commit g k = tells-by Commit g k refl refl
+tells-frame Commit g k = tells-by Commit g k (same-refusal Commit g k (λ x. refl)) refl
 tells-frame Abort g k = tells-by Abort g k (same-refusal Abort g k (λ x. refl)) refl
 tells-frame Force g k = tells-by Force g k refl refl
 tells-frame TableView g k = tells-by TableView g k refl refl

@@ -1,6 +1,7 @@
--- A call that is chosen by number: which of the papers' calls it is, what its `Did` says of the answer, and where its one store stands.
-use Prim.Native.Nat.{ℕ, _+_}
+-- A call that is chosen by number: which of the papers' calls it is, what its `Did` says of the answer, and where its stores stand.
+use Prim.Native.Nat.{ℕ, zero, suc, _+_, _-_}
 use mathlib.Core.Path.{_≡_}
+use mathlib.Core.List.{List}
 use lib.Dec.{eqb, ltb}
 use lib.ListN.{take, drop}
 use Rattle.scope.specs.Bytes.{pick, put}
@@ -102,13 +103,35 @@ placeOf (Write c v) slots a = nowhere
 abbrev pub didOf : Answer → Fault → State → Place → Did
 didOf a t s p = record { state = s; refused = refusalOf a; fault = t; value = valueOf a; said = saidOf a; at = p .at; size = p .size }
 
+-- the rows of the `count` entries after n brought from a medium, one after the other
+unfoldable pub rowsBrought : ℕ → ℕ → ℕ → List ℕ → List ℕ → List ℕ
+rowsBrought slots zero n from m = m
+rowsBrought slots (suc count) n from m =
+    rowsBrought slots count (n + 1) from (put m (32 + rowAt slots (n + 1)) (take 32 (drop (32 + rowAt slots (n + 1)) from)))
+
+-- WHAT IS BROUGHT to the medium before a call gives the medium after it: the bytes of its place; commit's rows, f+1 to its number, in that order
+abbrev pub brought : Call → Keeper → Answer → Place → List ℕ → List ℕ
+brought (Format n c) k a p m = put (k .medium) (p .at) (take (p .size) (drop (p .at) m))
+brought RecoveryStart k a p m = put (k .medium) (p .at) (take (p .size) (drop (p .at) m))
+brought RecoveryStep k a p m = put (k .medium) (p .at) (take (p .size) (drop (p .at) m))
+brought Begin k a p m = put (k .medium) (p .at) (take (p .size) (drop (p .at) m))
+brought Commit k a p m = rowsBrought (k .state .slots) (valueOf a - k .state .f) (k .state .f) m (k .medium)
+brought Abort k a p m = put (k .medium) (p .at) (take (p .size) (drop (p .at) m))
+brought Force k a p m = put (k .medium) (p .at) (take (p .size) (drop (p .at) m))
+brought TableView k a p m = put (k .medium) (p .at) (take (p .size) (drop (p .at) m))
+brought (Read c) k a p m = put (k .medium) (p .at) (take (p .size) (drop (p .at) m))
+brought (WriteBack c) k a p m = put (k .medium) (p .at) (take (p .size) (drop (p .at) m))
+brought (Cut q) k a p m = put (k .medium) (p .at) (take (p .size) (drop (p .at) m))
+brought (Look n) k a p m = put (k .medium) (p .at) (take (p .size) (drop (p .at) m))
+brought (Write c v) k a p m = put (k .medium) (p .at) (take (p .size) (drop (p .at) m))
+
 -- THE CALL, MADE on what was lent before it
 pub record Made (a : Call) (before : Keeper) (d : Did) (after : Keeper) : Type 0 where
   -- the state and every byte of what was lent are as the papers' call leaves them
   pub keeper : after ≡ act a before .keeper
-  -- the answer is its answer, and the place is that of its one store
+  -- the answer is its answer, and the place is that of its one store; commit, which stores rows, names none
   pub did : d ≡ didOf (act a before .answer) (d .fault) (d .state) (placeOf a (before .state .slots) (act a before .answer))
   -- beside 2 and 7 it tells what is wrong with the lowest bad row
   pub tells : faultOf (d .fault) ≡ told a before
-  -- bringing the bytes of that place to the medium before the call gives the medium after it
-  pub brought : after .medium ≡ put (before .medium) (d .at) (take (d .size) (drop (d .at) (after .medium)))
+  -- what is brought from the medium after the call makes it of the one before
+  pub brings : after .medium ≡ brought a before (act a before .answer) (record { at = d .at; size = d .size }) (after .medium)

@@ -1,4 +1,4 @@
-// A call chosen by number, its answer as one value, and where on the medium its store stands: what programs share that make calls from
+// A call chosen by number, its answer as one value, and where on the medium its stores stand: what programs share that make calls from
 // data. Nothing is checked here: the keeper does its own checking.
 ghost use mathlib.Core.Path.{_≡_};
 ghost use Prim.Native.Nat.{_+_, _<_, _≤_};
@@ -56,7 +56,8 @@ pub const CELL: u32 = 3;
 pub const HEAD: u32 = 4;
 
 // What a call did: the state that it handed back, the refusal's number or 0 and what it tells of rows, what it answered, and where on the
-// medium its store stands, `size` bytes from `at` on; with size 0 it made none.
+// medium its store stands, `size` bytes from `at` on; with size 0 it made none, or it is a commit, which stores the rows of entries f+1, f
+// as before it, to its number.
 pub struct Did {
     pub state: State,
     pub refused: u32,
@@ -104,7 +105,7 @@ fn answer(state: State, fault: Fault, value: u64, said: u32, at: usize, size: us
     }
 }
 
-// A call that stores nothing.
+// A call that stores nothing, or a commit.
 fn plain(out: Outcome) -> Did
     ensures { λ r. ⌜ r ≡ didOf (answered (out .answer)) (out .fault) (out .state) nowhere ⌝ }
 {
@@ -208,11 +209,11 @@ fn on_workspaces(
     plain(state.abort(current, first, last, waiting))
 }
 
-// Commit, read: nothing is stored.
+// Commit, which stores every row that waits, and read, which stores nothing.
 fn on_rows(
     state: State,
     asked: Asked,
-    medium: &[u8],
+    medium: &mut [u8],
     current: &[u64],
     first: &[u32],
     last: &[u32],
@@ -221,11 +222,11 @@ fn on_rows(
     requires { ⌜ (3 ≤ asked .call) × (asked .call < 5) ⌝ }
     ensures { λ r.
         let before = handed state (now (medium .entry)) (now (current .entry)) (now (first .entry)) (now (last .entry)) (now (waiting .entry)) in
-        let after = handed (r .state) (now (medium .entry)) (now (current .entry)) (now (first .entry)) (now (last .entry)) (now (waiting .exit)) in
+        let after = handed (r .state) (now (medium .exit)) (now (current .entry)) (now (first .entry)) (now (last .entry)) (now (waiting .exit)) in
         ⌜ Made (callOf asked) before r after ⌝ }
 {
     if asked.call == COMMIT {
-        return plain(state.commit(waiting));
+        return plain(state.commit(medium, waiting));
     }
     plain(state.read(asked.cell, current))
 }

@@ -5,6 +5,7 @@ use tried::abort;
 use tried::begin;
 use tried::commit;
 use tried::commit_medium;
+use tried::commit_rows;
 use tried::cut;
 use tried::force;
 use tried::fresh;
@@ -28,7 +29,11 @@ fn open(what: &[u8]) -> Desk {
 fn one() {
     let run = open(b"edge=1 begin");
     commit_medium(b"edge=1 commit with 176 waiting bytes", run);
-    commit(b"edge=1 commit with 128 waiting bytes", run);
+    commit_rows(b"edge=1 commit with a medium of 128 bytes", run);
+    commit(
+        b"edge=1 commit with 128 waiting bytes and a medium of 176",
+        run,
+    );
     let none = start_empty(b"edge=1 start of an empty medium", run);
     read(b"edge=1 read after it", none, 0);
 }
@@ -42,7 +47,8 @@ fn three() {
     let run = begin(b"edge=3 begin", still);
     read(b"edge=3 read in run", run, 0);
     let written = write(b"edge=3 write in run", run, 0);
-    commit(b"edge=3 commit in run", written);
+    let done = commit(b"edge=3 commit in run", written);
+    force(b"edge=3 force after it", done);
 }
 
 // 5: the journal's last rows, by writes.
@@ -74,14 +80,15 @@ fn five_idle() {
     begin(b"edge=5 begin l-h=3", c);
 }
 
-// 7: a waiting row damaged and made whole again, for abort, begin and force.
+// 7: a waiting row damaged and made whole again, for abort, begin, commit and force.
 fn seven() {
     let run = open(b"edge=7 begin");
     let a = write(b"edge=7 write", run, 0);
     let damaged = poke_row(a, 4, 4);
     let b = abort(b"edge=7 abort kind=4", damaged);
     let c = begin(b"edge=7 begin in run kind=4", b);
-    let d = force(b"edge=7 force kind=4", c);
+    let g = commit(b"edge=7 commit kind=4", c);
+    let d = force(b"edge=7 force kind=4", g);
     let whole = poke_row(d, 4, 1);
     let e = force(b"edge=7 force kind=1", whole);
     abort(b"edge=7 abort kind=1", e);
@@ -98,6 +105,24 @@ fn seven_lowest() {
     let e = force(b"edge=7 force entry 2 cell=2", d);
     let both = poke_row(e, 12, 1);
     abort(b"edge=7 abort entry 1 filler=1", both);
+    let f = commit(b"edge=7 commit entry 1 stored, entry 2 cell=2", both);
+    let stored = poke_row(f, 40, 1);
+    commit(b"edge=7 commit entry 1 stored, entry 2 cell=1", stored);
+}
+
+// 7: of two damaged rows that are not stored commit names the lower, and then the other.
+fn seven_commit() {
+    let run = open(b"edge=7 begin");
+    let a = write(b"edge=7 write", run, 0);
+    let b = write(b"edge=7 write", a, 1);
+    let upper = poke_row(b, 40, 2);
+    let both = poke_row(upper, 12, 1);
+    let c = commit(b"edge=7 commit entry 1 filler=1", both);
+    let lower = poke_row(c, 12, 0);
+    let d = commit(b"edge=7 commit entry 2 cell=2", lower);
+    let whole = poke_row(d, 40, 1);
+    let e = commit(b"edge=7 commit", whole);
+    force(b"edge=7 force after it", e);
 }
 
 // 7: an end among the open rows.
@@ -110,15 +135,14 @@ fn seven_end() {
     let c = abort(b"edge=7 abort kind=2 new=0", bare);
     let d = begin(b"edge=7 begin in run kind=2 new=0", c);
     force(b"edge=7 force kind=2 new=0", d);
+    commit(b"edge=7 commit kind=2 new=0", d);
 }
 
-// Cell 0 written, committed and both entries stored, not written back.
+// Cell 0 written and committed, not written back.
 fn stored(what: &[u8]) -> Desk {
     let run = open(what);
     let a = write(what, run, 0);
-    let b = commit(what, a);
-    let c = force(what, b);
-    force(what, c)
+    commit(what, a)
 }
 
 // 7 for cut: the medium's row of p.
@@ -182,7 +206,7 @@ fn eleven() {
     let run = open(b"edge=11 begin");
     let a = write(b"edge=11 write", run, 0);
     let b = force(b"edge=11 force", a);
-    let c = commit(b"edge=11 commit", b);
+    let c = write(b"edge=11 write", b, 0);
     look(b"edge=11 look n=h=0", c, 0);
     look(b"edge=11 look n=f=1", c, 1);
     look(b"edge=11 look n=l=2", c, 2);
@@ -200,6 +224,7 @@ fn low() {
 fn high() {
     seven();
     seven_lowest();
+    seven_commit();
     seven_end();
     seven_cut();
     eight();

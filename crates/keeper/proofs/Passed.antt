@@ -16,6 +16,7 @@ use Rattle.state.specs.declared.Phase as code
 use Rattle.state.specs.declared.Phase.the-variants.{Idle, Run, Recovering}
 use Rattle.state.proofs.Facts.{and-left, and-right, Sound, sound-facts, run-facts, medium-fits}
 use Rattle.state.specs.Lent.{lentTo}
+use Rattle.forcing.specs.Storing.{Storing}
 use Rattle.keeper.specs.Rolling.{Rolling}
 
 ruleset lengths = (and-left, and-right, eqb-true)
@@ -53,12 +54,19 @@ module _ (n : Numbers) (p : code.Phase) (medium current first last waiting : Lis
       let t = refusal-none (Write c v) k e in
       (rolling (is-sound (Write c v) (t .0)) (in-run p (t .1 .0) (t .1 .1 .0)) (fit-lent (Write c v) k (t .0)), leb-false (n .cells) c (t .1 .1 .1 .0))
 
-  pub commit-passed : refusal Commit (lentTo n p medium current first last waiting) ≡ 0 → Sound n p × (length waiting ≡ 32 * n .slots) × (n .l < 4294967295)
+  pub commit-passed : refusal Commit (lentTo n p medium current first last waiting) ≡ 0
+      → Sound n p × (length medium ≡ 32 + 32 * n .slots + 8 * n .cells) × (length waiting ≡ 32 * n .slots) × (n .l < 4294967295)
   unfolding tests lent lentTo stateOf k
   commit-passed e =
       let t = refusal-none Commit k e in
+      let l = fit-lent Commit k (t .0) in
       let s = is-sound Commit (t .0) in
-      (s, eqb-true (length waiting) (32 * n .slots) (fit-lent Commit k (t .0)), run-facts n p s (in-run p (t .1 .0) (t .1 .1 .0)) .next)
+      (s, medium-fits n medium (search lengths), search lengths, run-facts n p s (in-run p (t .1 .0) (t .1 .1 .0)) .next)
+
+  -- so its rows can be made and stored
+  pub commit-storing : refusal Commit (lentTo n p medium current first last waiting) ≡ 0 → (a : Numbers) (w : List ℕ)
+      → (a .l ≡ n .l + 1) × (a .f ≡ n .f) × (a .slots ≡ n .slots) → length w ≡ length waiting → Storing a medium w
+  commit-storing e a w i h = let d = commit-passed e in omega (arith, d .0, d .1, d .2, i)
 
   pub abort-passed : refusal Abort (lentTo n p medium current first last waiting) ≡ 0 → isRun (phaseOf p) ≡ true → Rolling n current first last waiting
   unfolding tests k

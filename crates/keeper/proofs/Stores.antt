@@ -8,10 +8,12 @@ use native.Mathlib.Omega.{arith}
 use lib.Dec.{ltb}
 use lib.ListN.{getD, set, take, drop}
 use Rattle.scope.specs.Bytes.{bytesOf, put}
-use Rattle.scope.specs.Keeper.{Outcome, done, refused, clean, stored, rowAt, cellAt, waitingRow, headBytes, withState, withMedium, storedNext, droppedTo, storeCell, storeHead}
+use Rattle.scope.specs.Keeper.{Keeper, Outcome, done, refused, clean, stored, rowAt, cellAt, waitingRow, headBytes, withState, withMedium, storedNext, droppedTo, storeCell, storeHead}
 use Rattle.scope.specs.Refusals.{Force, WriteBack, Cut, refusal}
-use Rattle.scope.specs.Calls.{cleaned, act, performed}
+use Rattle.scope.specs.Calls.{forced, cleaned, act, performed}
 use Rattle.state.specs.State.{stateOf}
+use Rattle.state.specs.declared.Numbers.{Numbers}
+use Rattle.state.specs.declared.Phase as code
 use Rattle.state.specs.Lent.{lentTo}
 use Rattle.row.specs.declared.Fault.the-variants.{None}
 use Rattle.keeper.specs.Answers.{answered, handed, leaves}
@@ -33,17 +35,16 @@ module _ (s : State) (number : ℕ) where
           let a : performed Force k ≡ record { answer = done 0; keeper = k } = simp (le-ltb (s .numbers .f) (s .numbers .l) h) in
           rw q (sym a ∙ numbered-done Force k number e z)
 
-      pub force-stored : (n : ℕ) (m : List ℕ) → number ≡ 0 → s .numbers .f < s .numbers .l → n ≡ s .numbers .f + 1
-          → m ≡ put medium (32 + rowAt (s .numbers .slots) n) (take 32 (drop (rowAt (s .numbers .slots) n) waiting))
-          → r ≡ record { answer = Done n; fault = None; state = record { numbers = record { cells = s .numbers .cells; slots = s .numbers .slots; h = s .numbers .h; f = n; l = s .numbers .l; o = s .numbers .o }; phase = s .phase } }
+      pub force-stored : (a : Numbers) (m : List ℕ) → number ≡ 0 → s .numbers .f < s .numbers .l
+          → ((p : code.Phase) → lentTo a p m [] [] [] waiting ≡ forced (lentTo (s .numbers) p medium [] [] [] waiting))
+          → r ≡ record { answer = Done (a .f); fault = None; state = record { numbers = a; phase = s .phase } }
           → leaves (answered (r .answer)) (r .state) m [] [] [] waiting ≡ act Force (handed s medium [] [] [] waiting)
-      unfolding performed leaves handed lentTo stateOf withState withMedium storedNext waitingRow
-      force-stored n m z h p g q =
+      unfolding performed leaves handed forced lentTo stateOf withState withMedium storedNext
+      force-stored a m z h p q =
           let k = lentTo (s .numbers) (s .phase) medium [] [] [] waiting in
-          let i = s .numbers .f + 1 in
-          let a : performed Force k ≡ record { answer = done i; keeper = withState (storedNext (k .state)) (withMedium (put medium (32 + rowAt (s .numbers .slots) i) (waitingRow k i)) k) } =
-          simp (lt-ltb (s .numbers .f) (s .numbers .l) h) in
-          rw (q, g, p) (sym a ∙ numbered-done Force k number e z)
+          let d : performed Force k ≡ record { answer = done (s .numbers .f + 1); keeper = forced k } = simp (lt-ltb (s .numbers .f) (s .numbers .l) h) in
+          let i : a .f ≡ s .numbers .f + 1 = ap (λ (x : Keeper). x .state .f) (p (s .phase)) in
+          rw q (ap (λ (x : Keeper). record { answer = done (a .f); keeper = x }) (p (s .phase)) ∙ ap (λ n. record { answer = done n; keeper = forced k }) i ∙ sym d ∙ numbered-done Force k number e z)
 
     -- cut
 

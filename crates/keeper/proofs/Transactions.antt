@@ -8,7 +8,8 @@ use Rattle.scope.specs.Bytes.{pick, put}
 use Rattle.scope.specs.Row.{update, abortEntry, rowBytes}
 use Rattle.scope.specs.Keeper.{Keeper, Outcome, Phase, idle, run, done, isRun, rowAt, withState, withWaiting, madeTo, assign, append}
 use Rattle.scope.specs.Refusals.{Begin, Read, Write, Commit, Abort, refusal}
-use Rattle.scope.specs.Calls.{rolledBack, act, performed}
+use Rattle.scope.specs.Keeper as papers
+use Rattle.scope.specs.Calls.{commitMade, forcedBy, rolledBack, act, performed}
 use Rattle.state.specs.State.{phaseOf, stateOf}
 use Rattle.state.specs.declared.Numbers.{Numbers}
 use Rattle.state.specs.declared.Phase as code
@@ -26,6 +27,13 @@ use Rattle.keeper.specs.declared.Outcome as result
 use Rattle.keeper.specs.declared.Answer.the-variants.{Done}
 use Rattle.scope.proofs.Refusals.{numbered-done}
 
+-- what commit's first step leaves of the numbers
+pub made-numbers : (n a : Numbers) (waiting w : List ℕ) → ((p : code.Phase) (x : List ℕ) → lentTo a Idle x [] [] [] w ≡ commitMade (lentTo n p x [] [] [] waiting))
+    → (a .l ≡ n .l + 1) × (a .f ≡ n .f) × (a .slots ≡ n .slots)
+unfolding commitMade lentTo stateOf withState madeTo
+made-numbers n a waiting w p =
+    let q = ap (λ (k : Keeper). k .state) (p Idle []) in (ap (λ (s : papers.State). s .l) q, ap (λ (s : papers.State). s .f) q, ap (λ (s : papers.State). s .slots) q)
+
 module _ (s : State) (r : result.Outcome) (number : ℕ) where
   -- read
 
@@ -37,13 +45,17 @@ module _ (s : State) (r : result.Outcome) (number : ℕ) where
 
   -- commit
 
-  module _ (waiting : List ℕ) (e : number ≡ refusal Commit (lentTo (s .numbers) (s .phase) [] [] [] [] waiting)) where
-    pub commit-done : (n : ℕ) (w : List ℕ) (m : Numbers) → n ≡ s .numbers .l + 1 → w ≡ put waiting (rowAt (s .numbers .slots) n) (rowBytes n (entry what.Commit))
-        → m ≡ record { cells = s .numbers .cells; slots = s .numbers .slots; h = s .numbers .h; f = s .numbers .f; l = n; o = n }
-        → r ≡ record { answer = Done n; fault = None; state = record { numbers = m; phase = Idle } } → number ≡ 0
-        → leaves (answered (r .answer)) (r .state) [] [] [] [] w ≡ act Commit (handed s [] [] [] [] waiting)
-    unfolding performed leaves handed lentTo stateOf withState withWaiting madeTo append
-    commit-done n w m p q g f z = rw (f, g, q, p) (numbered-done Commit (lentTo (s .numbers) (s .phase) [] [] [] [] waiting) number e z)
+  module _ (medium waiting : List ℕ) (e : number ≡ refusal Commit (lentTo (s .numbers) (s .phase) medium [] [] [] waiting)) where
+    pub commit-done : (a b : Numbers) (m w : List ℕ) → ((p : code.Phase) (x : List ℕ) → lentTo a Idle x [] [] [] w ≡ commitMade (lentTo (s .numbers) p x [] [] [] waiting))
+        → ((p : code.Phase) → lentTo b p m [] [] [] w ≡ forcedBy (a .l - a .f) (lentTo a p medium [] [] [] w))
+        → r ≡ record { answer = Done (a .l); fault = None; state = record { numbers = b; phase = Idle } } → number ≡ 0
+        → leaves (answered (r .answer)) (r .state) m [] [] [] w ≡ act Commit (handed s medium [] [] [] waiting)
+    unfolding performed leaves handed lentTo stateOf
+    commit-done a b m w p q f z =
+        let k = lentTo (s .numbers) (s .phase) medium [] [] [] waiting in let i = made-numbers (s .numbers) a waiting w p in
+        rw f (ap (λ x. record { answer = done (a .l); keeper = x }) (q Idle ∙ ap (forcedBy (a .l - a .f)) (p (s .phase) medium))
+        ∙ ap (λ j. record { answer = done j; keeper = forcedBy (j - a .f) (commitMade k) }) (i .0)
+        ∙ ap (λ j. record { answer = done (s .numbers .l + 1); keeper = forcedBy (s .numbers .l + 1 - j) (commitMade k) }) (i .1) ∙ numbered-done Commit k number e z)
 
   -- write, abort and begin
 

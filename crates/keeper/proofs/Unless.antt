@@ -8,7 +8,7 @@ use Rattle.scope.specs.Keeper.{Keeper, refused}
 use lib.Dec.{eqb}
 use Rattle.scope.specs.Bytes.{pick}
 use Rattle.scope.specs.Row.{faultless}
-use Rattle.scope.specs.Refusals.{Call, Read, Write, Commit, refusal, badRow, told}
+use Rattle.scope.specs.Refusals.{Call, Read, Write, refusal, badRow, told}
 use Rattle.scope.specs.Calls.{unchanged, act}
 use Rattle.scope.proofs.Refusals.{numbered-refused}
 use Rattle.scope.proofs.Told.{told-nothing}
@@ -55,7 +55,3 @@ module _ (k : Keeper) where
   pub write-silent : (c v : ℕ) → faultless ≡ told (Write c v) k
   unfolding told badRow
   write-silent c v = nothing (eqb (refusal (Write c v) k) 2 || eqb (refusal (Write c v) k) 7)
-
-  pub commit-silent : faultless ≡ told Commit k
-  unfolding told badRow
-  commit-silent = nothing (eqb (refusal Commit k) 2 || eqb (refusal Commit k) 7)

@@ -12,6 +12,7 @@ use crate::State;
 use crate::WrittenBack;
 use crate::done;
 use crate::refused_with;
+use forcing::force_step;
 use medium::head::store_head;
 use medium::layout::index;
 use medium::table::store_cell;
@@ -35,17 +36,8 @@ impl State {
         if numbers.f >= numbers.l {
             return done(0, numbers, phase);
         }
-        let n = numbers.f + 1;
-        journal::store_row(medium, waiting, numbers.slots, n);
-        let next = Numbers {
-            cells: numbers.cells,
-            slots: numbers.slots,
-            h: numbers.h,
-            f: n,
-            l: numbers.l,
-            o: numbers.o,
-        };
-        done(n as u64, next, phase)
+        let next = force_step(numbers, medium, waiting);
+        done(next.f as u64, next, phase)
     }
 
     // Write-back: with `first` 0 the cell is clean; else its current value is stored and `first` becomes 0. Refuses 1, 10, 4, 8.

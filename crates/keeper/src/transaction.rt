@@ -1,4 +1,4 @@
-// One transaction: begin, read, write, commit, abort. Nothing is stored.
+// One transaction: begin, read, write, commit, abort. Commit stores its entry and all before it; the others store nothing.
 ghost use mathlib.Core.Path.{_≡_};
 ghost use mathlib.Core.List.{[]};
 ghost use Prim.Native.Nat.{_+_};
@@ -15,6 +15,8 @@ use crate::done;
 use crate::made;
 use crate::refused;
 use crate::refused_with;
+use forcing::force_all;
+use forcing::make_commit;
 use medium::layout::index;
 use row::Entry;
 use row::Fault;
@@ -78,23 +80,24 @@ impl State {
         done(0, made(numbers, n, numbers.o), Phase::Run)
     }
 
-    // Commit: appends the commit entry and answers its number, l+1; the transaction is durable once force has stored that entry.
-    // Refuses 1, 10, 3. Costs one row.
-    pub fn commit(self, waiting: &mut [u8]) -> Outcome
+    // Commit: appends the commit entry, storing nothing, then takes force's step until f = l, and answers its number, l+1. The transaction is
+    // durable once the stores are, which the host brings to its medium one by one, rows f+1 to l+1 in that order.
+    // Refuses 1, 10, 3, 7, before anything is changed. Goes twice over the rows that are not stored: judged, then stored.
+    pub fn commit(self, medium: &mut [u8], waiting: &mut [u8]) -> Outcome
         ensures { λ r.
-            let before = handed self [] [] [] [] (now (waiting .entry)) in
-            let after = leaves (answered (r .answer)) (r .state) [] [] [] [] (now (waiting .exit)) in
+            let before = handed self (now (medium .entry)) [] [] [] (now (waiting .entry)) in
+            let after = leaves (answered (r .answer)) (r .state) (now (medium .exit)) [] [] [] (now (waiting .exit)) in
             ⌜ (after ≡ act Commit before) × (faultOf (r .fault) ≡ told Commit before) ⌝ }
     {
         let numbers = self.numbers;
         let phase = self.phase;
-        let no = refusal::commit(numbers, phase, waiting);
-        if no != 0 {
-            return refused(self, no);
+        let no = refusal::commit(numbers, phase, medium, waiting);
+        if no.number != 0 {
+            return refused_with(self, no);
         }
-        let number = numbers.l + 1;
-        journal::append(waiting, numbers.slots, number, Entry::Commit);
-        done(number as u64, made(numbers, number, number), Phase::Idle)
+        let made = make_commit(numbers, waiting);
+        let stored = force_all(made, medium, waiting);
+        done(made.l as u64, stored, Phase::Idle)
     }
 
     // Abort: in run appends the abort entry and restores the transaction's cells in falling order; in idle it does nothing.

@@ -68,18 +68,6 @@ fn written(
     done.state
 }
 
-// So many entries stored.
-fn forced(count: u32, start: State, medium: &mut [u8], waiting: &[u8]) -> State {
-    let mut state = start;
-    let mut left = count;
-    while 0 < left {
-        let stored = state.force(medium, waiting);
-        state = stored.state;
-        left -= 1;
-    }
-    state
-}
-
 // The cell of a write: each its own, or the first and the last cell by turns.
 fn place(i: u32, each: bool) -> u32 {
     if each { i } else { i % 2 * 1023 }
@@ -116,10 +104,11 @@ fn case_five(
 ) {
     let fresh = first_state(medium, 2, 4, current, first, last, waiting);
     let open = written(fresh, 0, A, current, first, last, waiting);
-    let committed = open.commit(waiting);
+    let committed = open.commit(medium, waiting);
     let idle = committed.state;
     let again = written(idle, 0, B, current, first, last, waiting);
-    let stored = forced(3, again, medium, waiting);
+    let forced = again.force(medium, waiting);
+    let stored = forced.state;
     stored.write_back(0, medium, current, first, last);
 }
 
@@ -135,9 +124,7 @@ fn ends(
     let one = written(fresh, 0, RELEASE_ALONE, current, first, last, waiting);
     let two = one.write(1, GREATEST, current, first, last, waiting);
     let open = two.state;
-    let committed = open.commit(waiting);
-    let idle = committed.state;
-    forced(3, idle, medium, waiting);
+    open.commit(medium, waiting);
 }
 
 // A full journal on the largest medium: one transaction of 1,023 writes and its commit, all stored, no cell written back.
@@ -154,9 +141,7 @@ fn largest(
     let begun = fresh.begin(current, first, last, waiting);
     let open = begun.state;
     let full = filled(1023, each, value, open, current, first, last, waiting);
-    let committed = full.commit(waiting);
-    let idle = committed.state;
-    forced(1024, idle, medium, waiting);
+    full.commit(medium, waiting);
 }
 
 fn show_small(name: &[u8], medium: &mut [u8; 176]) {

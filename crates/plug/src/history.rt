@@ -65,13 +65,46 @@ fn draw_entry(numbers: Numbers, book: &mut [u64]) -> u32 {
     std::num::wrapping_add_u32(numbers.h, by)
 }
 
+// A drawn call, or the one that is likely after the last, which is made every other time.
+fn draw_call(recovering: bool, book: &mut [u64]) -> u32 {
+    let drawn = call_of(book::below(book, 80), recovering);
+    let likely = book::get(book, book::LIKELY);
+    let heads = book::below(book, 2);
+    if recovering {
+        return drawn;
+    }
+    if heads == 0 {
+        return drawn;
+    }
+    if likely == 0 {
+        return drawn;
+    }
+    if 9 < likely {
+        return drawn;
+    }
+    likely as u32 - 1
+}
+
+// The cell of a call: a drawn one, and of a write-back every other time that of the last write.
+fn draw_cell(call: u32, cells: u32, book: &mut [u64]) -> u32 {
+    let drawn = book::below(book, cells);
+    let heads = book::below(book, 2);
+    if call != BACK {
+        return drawn;
+    }
+    if heads == 0 {
+        return drawn;
+    }
+    book::last_written(book, drawn)
+}
+
 // A drawn call, of a cell below N.
 fn draw(state: State, book: &mut [u64]) -> Asked {
     let phase = state.phase;
     let recovering = is_recovering(phase);
     let numbers = state.numbers;
-    let call = call_of(book::below(book, 80), recovering);
-    let cell = book::below(book, numbers.cells);
+    let call = draw_call(recovering, book);
+    let cell = draw_cell(call, numbers.cells, book);
     let value = book::value(book);
     let entry = draw_entry(numbers, book);
     Asked {
@@ -129,7 +162,28 @@ fn note_done(asked: Asked, did: Did, book: &mut [u64]) {
     }
 }
 
-// A call made at most one store, where it says so, and none where it says so; at a store the plug is pulled, and each row is lost.
+// What is likely after a call, where a keeper that goes wrong would show it: a write, and its cell written back; a cell written back, and its
+// transaction aborted or the journal cut; an abort, and a cut. 1 is added; 0 is none.
+fn likely_after(asked: Asked, did: Did, heads: bool) -> u64 {
+    if did.refused != 0 {
+        return 0;
+    }
+    if asked.call == WRITE {
+        return BACK as u64 + 1;
+    }
+    if asked.call == ABORT {
+        return CUT as u64 + 1;
+    }
+    if did.said != console::STORED {
+        return 0;
+    }
+    if heads {
+        return ABORT as u64 + 1;
+    }
+    CUT as u64 + 1
+}
+
+// A call but commit made at most one store, where it says so, and none where it says so; at a store the plug is pulled, and each row is lost.
 fn judge(before: &[u8], medium: &[u8], did: Did, book: &mut [u64]) {
     let state = did.state;
     let cells = state.numbers.cells;
@@ -146,10 +200,48 @@ fn judge(before: &[u8], medium: &[u8], did: Did, book: &mut [u64]) {
     wear::wear(medium, cells, slots, state.numbers.h, state.numbers.f, book);
 }
 
-// The call's meaning noted, its stores judged, and the medium copied for the next.
-fn settle(asked: Asked, did: Did, medium: &[u8], before: &mut [u8], book: &mut [u64]) {
+// The row after entry n's brought from the medium to the one before it: the plug is pulled, and each row is lost.
+fn bring_row(before: &mut [u8], medium: &[u8], numbers: Numbers, n: u32, book: &mut [u64]) {
+    let at = wear::row_after(n, numbers.slots);
+    let stored = std::num::wrapping_add_u32(n, 1);
+    image::bring(medium, before, at, at + 32);
+    book::forced(book, stored as u64);
+    book::count(book, book::STORES);
+    pull::pull(before, numbers.cells, numbers.slots, book);
+    wear::wear(
+        before,
+        numbers.cells,
+        numbers.slots,
+        numbers.h,
+        stored,
+        book,
+    );
+}
+
+// A commit's rows, those of the entries after `from`, brought one by one: that is all that it stored.
+fn judge_commit(before: &mut [u8], medium: &[u8], did: Did, from: u32, book: &mut [u64]) {
+    let state = did.state;
+    let numbers = state.numbers;
+    let mut n = if did.refused == 0 { from } else { numbers.l };
+    while n < numbers.l {
+        bring_row(before, medium, numbers, n, book);
+        n += 1;
+    }
+    let stores = image::stores_between(before, medium, numbers.slots);
+    book::judge(book, stores == 0);
+}
+
+// The call's meaning noted, its stores judged, and the medium copied for the next. `from` is f before it.
+fn settle(asked: Asked, did: Did, from: u32, medium: &[u8], before: &mut [u8], book: &mut [u64]) {
     book::count(book, book::CALLS);
+    let heads = book::below(book, 2);
+    let likely = likely_after(asked, did, heads == 0);
+    book::set(book, book::LIKELY, likely);
     note_done(asked, did, book);
+    if asked.call == COMMIT {
+        judge_commit(before, medium, did, from, book);
+        return;
+    }
     judge(before, medium, did, book);
     image::copy(medium, before);
 }
@@ -167,7 +259,7 @@ fn turn(
 ) -> State {
     let asked = draw(state, book);
     let did = console::make(state, asked, medium, current, first, last, waiting);
-    settle(asked, did, medium, before, book);
+    settle(asked, did, state.numbers.f, medium, before, book);
     let next = did.state;
     next
 }

@@ -27,7 +27,11 @@ fn one(i: u32, book: &mut [u64]) {
     let spread = 1 + i % 28;
     let cells = size(1, spread, book);
     let slots = size(4, spread, book);
+    let differences = book::get(book, book::DIFFERENCES);
     history::history(cells, slots, TURNS, book);
+    if book::get(book, book::DIFFERENCES) != differences {
+        book::count(book, book::STRUCK);
+    }
 }
 
 fn all(tried: u32, book: &mut [u64]) {
@@ -95,6 +99,7 @@ fn tell_cuts(book: &[u64]) {
     line(b"restored=", book::get(book, book::RESTORED));
     line(b"holes=", book::get(book, book::HOLES));
     line(b"ends=", book::get(book, book::ENDS));
+    line(b"struck=", book::get(book, book::STRUCK));
     line(b"differences=", book::get(book, book::DIFFERENCES));
 }
 

@@ -131,7 +131,7 @@ fn clear(s: &mut [u32])
 
 // Recovery start: reads the entries that count and replays them over the table, undoing what has no end. `first` and `last` become
 // zero, waiting rows and medium keep their bytes, and nothing is stored. Refuses 1 and 2, with the state of zeros, and tells beside 2
-// what is wrong with the lowest row that does not read. Goes over the entries that count twice, judged and then replayed, once over the
+// what is wrong with the lowest row that does not read, or the hole. Goes over the entries that count twice, judged and then replayed, once over the
 // table, and once more over each undone row.
 pub fn recovery_start(
     medium: &[u8],

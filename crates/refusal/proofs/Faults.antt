@@ -1,31 +1,31 @@
 -- What a refusal tells of rows is what the papers' definitions say of the keeper: the waiting rows and the medium's rows are the keeper's, and
 -- beside a number that is neither 2 nor 7 nothing is told.
-use Prim.Native.Nat.{ℕ, zero, suc, _+_, _-_, _≤_, _<_}
+use Prim.Native.Nat.{ℕ, zero, suc, _+_, _-_, _≤_}
 use mathlib.Core.Path.{_≡_, refl, sym, ap, _∙_, subst}
 use mathlib.Core.Bool.{Bool, true, false, _&&_, _||_, not, false≢true}
 use mathlib.Core.List.{List, []}
-use mathlib.Core.Option.{Option, none, some}
+use mathlib.Core.Option.{Option}
 use native.Mathlib.Nat.{zero-add}
 use native.Mathlib.Omega.{arith}
-use borrow.Author.Tests.{ltb-false, eq-eqb, ne-eqb}
+use borrow.Author.Tests.{ltb-false, ne-eqb}
 use lib.Dec.{eqb, ltb}
 use Rattle.scope.specs.Bytes.{pick}
-use Rattle.scope.specs.Row.{Entry, isEntry, isUpdate, Reason, wrongEntry, wrongUpdate, Fault, faultless, fault, faultAt, lowestFault}
+use Rattle.scope.specs.Row.{Entry, isEntry, isUpdate, Reason, Fault, faultless, fault, faultAt, lowestFault, faultEntry}
 use Rattle.scope.specs.Keeper.{Keeper, isRun, waitingRow, mediumRow}
 use Rattle.scope.specs.Recovery.{allUpdates}
-use Rattle.scope.specs.Refusals.{Call, Begin, Abort, Force, Cut, notUpdates, refusal, openFault, badRow, told}
-use Rattle.scope.proofs.Told.{isFault, updates-judged, told-nothing, told-7}
-use Rattle.row.specs.Row.{reason, reasonOf, faultOf}
-use Rattle.row.specs.declared.Reason as reasons
+use Rattle.scope.specs.Refusals.{Call, Begin, Commit, Abort, Force, Cut, notUpdates, notEntries, refusal, openFault, waitingFault, badRow, told}
+use Rattle.scope.proofs.Told.{isFault, updates-judged, rows-judged, told-nothing, told-7}
+use Rattle.row.specs.Row.{faultOf}
 use Rattle.row.specs.declared.Fault as faults
-use Rattle.row.specs.declared.Fault.the-variants.{None, At}
+use Rattle.row.specs.declared.Fault.the-variants.{None}
 use Rattle.state.specs.State.{phaseOf, stateOf}
 use Rattle.state.specs.declared.Numbers.{Numbers}
 use Rattle.state.specs.declared.Phase as code
 use Rattle.state.specs.Lent.{lentTo}
 use Rattle.journal.specs.Entries.{entryIn, wrongIn}
-use Rattle.workspace.specs.Values.{wrongUpdateIn}
-use Rattle.workspace.proofs.Alike.{waiting-wrong}
+use Rattle.workspace.specs.Values.{wrongUpdateIn, wrongDue}
+use Rattle.workspace.proofs.Alike.{waiting-wrong, waiting-unread}
+use Rattle.workspace.proofs.Judging.{none-lowest, named-lowest}
 use Rattle.refusal.specs.Rows.{openFaultIn, movedNo, movedFault}
 use Rattle.refusal.specs.declared.Refusal.{Refusal}
 
@@ -73,42 +73,85 @@ module _ (n : Numbers) (p : code.Phase) (medium current first last waiting : Lis
       go true = ap isFault in-keeper ∙ judged
       go false = refl
 
-  module _ (f : faults.Fault) (e : faultOf f ≡ openFaultIn n p waiting) (x : reasons.Reason) (m : ℕ) (z : f ≡ At x m) where
-    in-run : faultOf f ≡ openFault k
-    unfolding openFaultIn
-    in-run = go (isRun (phaseOf p)) e (ap faultOf z)
+  -- the fault of the row that the search answers
+  module _ (m : ℕ) (e : m ≡ faultEntry (openFaultIn n p waiting)) (h : m ≡ 0 → ⊥)
+      (w : Fault) (f : w ≡ faultAt m (wrongDue true waiting (n .slots) (n .cells) m) faultless) where
+    in-run : w ≡ openFault k
+    unfolding openFaultIn wrongDue
+    in-run = go (isRun (phaseOf p)) e
       where
-        go : (b : Bool) → faultOf f ≡ pick b (lowestFault (wrongUpdateIn waiting (n .slots) (n .cells)) (n .l - n .o) (n .o)) faultless
-            → faultOf f ≡ fault (reason x) m → faultOf f ≡ openFault k
-        go true q t = q ∙ in-keeper
-        go false q t = absurd (false≢true (ap isFault (sym q ∙ t)))
+        go : (b : Bool) → m ≡ faultEntry (pick b (lowestFault (wrongUpdateIn waiting (n .slots) (n .cells)) (n .l - n .o) (n .o)) faultless) → w ≡ openFault k
+        go true q = f ∙ named-lowest (wrongUpdateIn waiting (n .slots) (n .cells)) (n .l - n .o) (n .o) m q h ∙ in-keeper
+        go false q = absurd (h q)
 
-    pub abort-names : faultOf f ≡ badRow Abort (lentTo n p medium current first last waiting)
+    pub abort-names : w ≡ badRow Abort (lentTo n p medium current first last waiting)
     unfolding badRow k
     abort-names = in-run
 
-    pub begin-names : faultOf f ≡ badRow Begin (lentTo n p medium current first last waiting)
+    pub begin-names : w ≡ badRow Begin (lentTo n p medium current first last waiting)
     unfolding badRow k
     begin-names = in-run
 
-module _ (n : Numbers) (p : code.Phase) (waiting : List ℕ) (f : faults.Fault) (e : faultOf f ≡ openFaultIn n p waiting) where
-  pub none-found : f ≡ None → false ≡ isFault (openFaultIn n p waiting)
-  none-found z = ap (λ g. isFault (faultOf g)) (sym z) ∙ ap isFault e
+-- whether there is such a row
+module _ (n : Numbers) (p : code.Phase) (waiting : List ℕ) (m : ℕ) (e : m ≡ faultEntry (openFaultIn n p waiting)) where
+  pub none-found : m ≡ 0 → false ≡ isFault (openFaultIn n p waiting)
+  unfolding openFaultIn
+  none-found z = go (isRun (phaseOf p)) e
+    where
+      go : (b : Bool) → m ≡ faultEntry (pick b (lowestFault (wrongUpdateIn waiting (n .slots) (n .cells)) (n .l - n .o) (n .o)) faultless)
+          → false ≡ isFault (pick b (lowestFault (wrongUpdateIn waiting (n .slots) (n .cells)) (n .l - n .o) (n .o)) faultless)
+      go true q = ap isFault (none-lowest (wrongUpdateIn waiting (n .slots) (n .cells)) (n .l - n .o) (n .o) m q z)
+      go false q = refl
 
-  pub one-found : (x : reasons.Reason) (m : ℕ) → f ≡ At x m → true ≡ isFault (openFaultIn n p waiting)
-  one-found x m z = ap (λ g. isFault (faultOf g)) (sym z) ∙ ap isFault e
+  pub one-found : (m ≡ 0 → ⊥) → true ≡ isFault (openFaultIn n p waiting)
+  one-found h = go (openFaultIn n p waiting) e
+    where
+      go : (f : Fault) → m ≡ faultEntry f → true ≡ isFault f
+      go faultless q = absurd (h q)
+      go (fault x i) q = refl
 
 module _ (n : Numbers) (p : code.Phase) (waiting : List ℕ) (b : Bool) (e : b ≡ isRun (phaseOf p)) where
-  pub open-none : b ≡ false → faultless ≡ openFaultIn n p waiting
+  pub open-none : b ≡ false → 0 ≡ faultEntry (openFaultIn n p waiting)
   unfolding openFaultIn
   open-none z = simp (← e, z)
 
-  pub none-open : b ≡ false → false ≡ isFault (openFaultIn n p waiting)
-  none-open z = ap isFault (open-none z)
+  pub open-run : (m : ℕ) → b ≡ true → m ≡ faultEntry (lowestFault (wrongDue true waiting (n .slots) (n .cells)) (n .l - n .o) (n .o)) → m ≡ faultEntry (openFaultIn n p waiting)
+  unfolding openFaultIn wrongDue
+  open-run m z q = q ∙ simp (← e, z)
 
-  pub open-run : (w : Fault) → b ≡ true → w ≡ lowestFault (wrongUpdateIn waiting (n .slots) (n .cells)) (n .l - n .o) (n .o) → w ≡ openFaultIn n p waiting
-  unfolding openFaultIn
-  open-run w z q = q ∙ simp (← e, z)
+-- the rows that commit would store
+
+module _ (n : Numbers) (p : code.Phase) (medium waiting : List ℕ) (m : ℕ) (e : m ≡ faultEntry (lowestFault (wrongDue false waiting (n .slots) (n .cells)) (n .l - n .f) (n .f))) where
+  commits : Keeper
+  commits = lentTo n p medium [] [] [] waiting
+
+  lowest : Fault
+  lowest = lowestFault (wrongDue false waiting (n .slots) (n .cells)) (n .l - n .f) (n .f)
+
+  to-store : lowest ≡ waitingFault commits
+  unfolding waitingFault wrongDue lentTo stateOf commits lowest
+  to-store = sym (λ i. lowestFault (λ j. waiting-unread (lentTo n p medium [] [] [] waiting) j i) (n .l - n .f) (n .f))
+
+  to-judge : isFault lowest ≡ notEntries (lentTo n p medium [] [] [] waiting)
+  unfolding notEntries waitingFault lentTo stateOf commits
+  to-judge = ap isFault to-store ∙ rows-judged (lentTo n p medium [] [] [] waiting) (n .l - n .f) (n .f)
+
+  pub none-unread : m ≡ 0 → false ≡ notEntries (lentTo n p medium [] [] [] waiting)
+  unfolding lowest
+  none-unread z = ap isFault (none-lowest (wrongDue false waiting (n .slots) (n .cells)) (n .l - n .f) (n .f) m e z) ∙ to-judge
+
+  module _ (h : m ≡ 0 → ⊥) where
+    pub one-unread : true ≡ notEntries (lentTo n p medium [] [] [] waiting)
+    unfolding lowest
+    one-unread = go lowest e ∙ to-judge
+      where
+        go : (f : Fault) → m ≡ faultEntry f → true ≡ isFault f
+        go faultless q = absurd (h q)
+        go (fault x i) q = refl
+
+    pub commit-names : (w : Fault) → w ≡ faultAt m (wrongDue false waiting (n .slots) (n .cells) m) faultless → w ≡ badRow Commit (lentTo n p medium [] [] [] waiting)
+    unfolding badRow lowest commits
+    commit-names w f = f ∙ named-lowest (wrongDue false waiting (n .slots) (n .cells)) (n .l - n .f) (n .f) m e h ∙ to-store
 
 -- force's row
 

@@ -26,11 +26,12 @@ ruleset tests = (and-left, and-right, eqb-true)
 pub rows-fit : (n : Numbers) (p : code.Phase) (rows : List ℕ) (base x : ℕ) → Sound n p → base + 32 * n .slots ≤ length rows → 0 < x → Rows rows base (n .slots) x
 rows-fit n p rows base x s h i = omega arith
 
-module _ (cells slots : ℕ) (current first last waiting : List ℕ) where
-  pub workspaces-fit : (d : Bool)
-      → d ≡ (eqb (length current) cells && (eqb (length first) cells && (eqb (length last) cells && eqb (length waiting) (32 * slots)))) → d ≡ true
-      → (length current ≡ cells) × (length first ≡ cells) × (length last ≡ cells) × (length waiting ≡ 32 * slots)
-  workspaces-fit d e z = let q = sym e ∙ z in (search tests, search tests, search tests, search tests)
+-- the waiting rows that begin and abort judge
+pub waiting-fits : (n : Numbers) (p : code.Phase) (current first last waiting : List ℕ) (d : Bool)
+    → d ≡ (eqb (length current) (n .cells) && (eqb (length first) (n .cells) && (eqb (length last) (n .cells) && eqb (length waiting) (32 * n .slots)))) → d ≡ true
+    → Sound n p → (x : ℕ) → 0 < x → Rows waiting 0 (n .slots) x
+waiting-fits n p current first last waiting d e z s x h =
+    let q = sym e ∙ z in let t : length waiting ≡ 32 * n .slots = search tests in rows-fit n p waiting 0 x s (omega arith) h
 
 pub pair-fits : (n : Numbers) (m waiting : List ℕ) (a b f : Bool) → a ≡ eqb (length m) (mediumLength (n .cells) (n .slots)) → b ≡ eqb (length waiting) (32 * n .slots)
     → f ≡ (a && b) → f ≡ true → (length m ≡ 32 + 32 * n .slots + 8 * n .cells) × (length waiting ≡ 32 * n .slots)

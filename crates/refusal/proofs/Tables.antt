@@ -12,7 +12,7 @@ use lib.ListN.{length, getD}
 use Rattle.scope.specs.Bytes.{pick}
 use Rattle.scope.specs.Row.{Entry, isEntry, isUpdate}
 use Rattle.scope.specs.Keeper.{Keeper, isIdle, isRun, isRecovering, mediumLength, sound, mediumRow}
-use Rattle.scope.specs.Refusals.{Begin, Read, Write, Commit, Abort, Force, WriteBack, Cut, Look, lent, unfit, notUpdates, full, usedUp, anyFirst, tests, firstNo, refusal}
+use Rattle.scope.specs.Refusals.{Begin, Read, Write, Commit, Abort, Force, WriteBack, Cut, Look, lent, unfit, notUpdates, notEntries, full, usedUp, anyFirst, tests, firstNo, refusal}
 use Rattle.scope.proofs.Refusals.{Numbered}
 use Rattle.scope.proofs.Told.{isFault}
 use Rattle.state.specs.State.{phaseOf, stateOf}
@@ -62,10 +62,11 @@ module _ (n : Numbers) (p : code.Phase) (s t rec : Bool) (ss : s ≡ sound (stat
   unfolding refusal tests unfit lent lentTo stateOf
   read-is cell current f i r r₁ r₂ r₃ ef et ei e₃ e₂ e₁ e = cc
 
-  pub commit-is : (waiting : List ℕ) (f i : Bool) (r r₁ r₂ : ℕ) → f ≡ eqb (length waiting) (32 * n .slots) → t ≡ (s && f) → i ≡ isIdle (phaseOf p)
-      → r₂ ≡ pick i 3 0 → r₁ ≡ pick rec 10 r₂ → r ≡ pick (not t) 1 r₁ → r ≡ refusal Commit (lentTo n p [] [] [] [] waiting)
+  pub commit-is : (m waiting : List ℕ) (a b f i x : Bool) (r r₁ r₂ r₃ : ℕ) → a ≡ eqb (length m) (mediumLength (n .cells) (n .slots)) → b ≡ eqb (length waiting) (32 * n .slots)
+      → f ≡ (a && b) → t ≡ (s && f) → i ≡ isIdle (phaseOf p) → x ≡ notEntries (lentTo n p m [] [] [] waiting) → r₃ ≡ pick x 7 0 → r₂ ≡ pick i 3 r₃
+      → r₁ ≡ pick rec 10 r₂ → r ≡ pick (not t) 1 r₁ → r ≡ refusal Commit (lentTo n p m [] [] [] waiting)
   unfolding refusal tests unfit lent lentTo stateOf
-  commit-is waiting f i r r₁ r₂ ef et ei e₂ e₁ e = cc
+  commit-is m waiting a b f i x r r₁ r₂ r₃ ea eb ef et ei ex e₃ e₂ e₁ e = cc
 
   pub look-is : (x : ℕ) (m waiting : List ℕ) (a b f i : Bool) (r r₁ r₂ : ℕ) → a ≡ eqb (length m) (mediumLength (n .cells) (n .slots)) → b ≡ eqb (length waiting) (32 * n .slots)
       → f ≡ (a && b) → t ≡ (s && f) → i ≡ (leb x (n .h) || ltb (n .l) x) → r₂ ≡ pick i 11 0 → r₁ ≡ pick rec 10 r₂ → r ≡ pick (not t) 1 r₁

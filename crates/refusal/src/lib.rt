@@ -1,11 +1,12 @@
 // What each call refuses with, 0 where it is done: the papers' table, each call's tests in their order, one after the other,
 // so that a call leaves at the first that holds. A function here changes nothing and is total: the calls ask it first.
 // Calls that judge rows tell beside 7 what is wrong with the lowest bad one.
-// Abort and cut leave at a state that is not sound before they look at what they are lent: that is quicker there, and slower in begin.
+// Begin, abort and cut leave at a state that is not sound before they look at what they are lent: that is quicker there.
 ghost use mathlib.Core.Path.{_≡_};
 ghost use mathlib.Core.List.{[]};
 ghost use Prim.Native.Nat.{ℕ, _≤_};
 ghost use Rattle.scope.specs.Refusals.{Begin, Read, Write, Commit, Abort, Force, WriteBack, Cut, Look, refusal, told};
+ghost use Rattle.scope.specs.Row.{faultEntry};
 ghost use Rattle.row.specs.Row.{faultOf};
 ghost use Rattle.journal.specs.Entries.{Rows, entryIn, wrongIn};
 ghost use Rattle.state.specs.Lent.{lentTo};
@@ -25,7 +26,8 @@ use state::is_recovering;
 use state::is_run;
 use state::refuse;
 use workspace::any_first;
-use workspace::lowest_fault;
+use workspace::lowest_bad;
+use workspace::row_fault;
 
 // A call's number, and what it tells of a row.
 pub struct Refusal {
@@ -109,34 +111,53 @@ pub fn write(
     0
 }
 
-pub fn commit(numbers: Numbers, phase: Phase, waiting: &[u8]) -> u32
-    ensures { λ r. ⌜ r ≡ refusal Commit (lentTo numbers phase [] [] [] [] (now (waiting .entry))) ⌝ }
+pub fn commit(numbers: Numbers, phase: Phase, medium: &[u8], waiting: &[u8]) -> Refusal
+    ensures { λ r.
+        let k = lentTo numbers phase (now (medium .entry)) [] [] [] (now (waiting .entry)) in
+        ⌜ (r .number ≡ refusal Commit k) × (faultOf (r .fault) ≡ told Commit k) ⌝ }
 {
-    let fit = both(numbers.sound(phase), numbers.fits_rows(waiting.len()));
+    let lent = both(
+        numbers.fits_medium(medium.len()),
+        numbers.fits_rows(waiting.len()),
+    );
+    let fit = both(numbers.sound(phase), lent);
     if fit {} else {
-        return 1;
+        return plain(1);
     }
     let recovering = is_recovering(phase);
     if recovering {
-        return 10;
+        return plain(10);
     }
     let idle = is_idle(phase);
     if idle {
-        return 3;
+        return plain(3);
     }
-    0
+    let slots = numbers.slots;
+    let cells = numbers.cells;
+    let m = lowest_bad(waiting, slots, cells, numbers.f, numbers.l, false);
+    if m != 0 {
+        return bad(row_fault(waiting, slots, cells, m, false));
+    }
+    plain(0)
 }
 
-// In run the lowest waiting row of o+1 to l that isn't that update.
-fn open_fault(numbers: Numbers, phase: Phase, waiting: &[u8]) -> Fault
+// In run the lowest waiting row of o+1 to l that isn't that update; else, and where each is, 0.
+fn open_bad(numbers: Numbers, phase: Phase, waiting: &[u8]) -> u32
     requires { ⌜ Rows (now waiting) 0 (numbers .slots) 1 ⌝ }
-    ensures { λ r. ⌜ faultOf r ≡ openFaultIn numbers phase (now (waiting .entry)) ⌝ }
+    ensures { λ r. ⌜ r ≡ faultEntry (openFaultIn numbers phase (now (waiting .entry))) ⌝ }
 {
     let running = is_run(phase);
     if running {} else {
-        return Fault::None;
+        return 0;
     }
-    lowest_fault(waiting, numbers.slots, numbers.cells, numbers.o, numbers.l)
+    lowest_bad(
+        waiting,
+        numbers.slots,
+        numbers.cells,
+        numbers.o,
+        numbers.l,
+        true,
+    )
 }
 
 pub fn abort(
@@ -163,14 +184,10 @@ pub fn abort(
     if recovering {
         return plain(10);
     }
-    let running = is_run(phase);
-    if running {} else {
-        return plain(0);
+    let m = open_bad(numbers, phase, waiting);
+    if m != 0 {
+        return bad(row_fault(waiting, numbers.slots, numbers.cells, m, true));
     }
-    let found = lowest_fault(waiting, numbers.slots, numbers.cells, numbers.o, numbers.l);
-    let Fault::None = found else {
-        return bad(found);
-    };
     plain(0)
 }
 
@@ -186,19 +203,22 @@ pub fn begin(
         let k = lentTo numbers phase [] (now (current .entry)) (now (first .entry)) (now (last .entry)) (now (waiting .entry)) in
         ⌜ (r .number ≡ refusal Begin k) × (faultOf (r .fault) ≡ told Begin k) ⌝ }
 {
+    let good = numbers.sound(phase);
+    if good {} else {
+        return plain(1);
+    }
     let lent = numbers.fits_workspaces(current.len(), first.len(), last.len(), waiting.len());
-    let fit = both(numbers.sound(phase), lent);
-    if fit {} else {
+    if lent {} else {
         return plain(1);
     }
     let recovering = is_recovering(phase);
     if recovering {
         return plain(10);
     }
-    let found = open_fault(numbers, phase, waiting);
-    let Fault::None = found else {
-        return bad(found);
-    };
+    let m = open_bad(numbers, phase, waiting);
+    if m != 0 {
+        return bad(row_fault(waiting, numbers.slots, numbers.cells, m, true));
+    }
     let full = numbers.full(phase);
     if full {
         return plain(5);

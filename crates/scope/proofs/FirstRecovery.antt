@@ -1,6 +1,6 @@
 -- Before the first recovery has ended no transaction counts, whatever is called: the keeper has no state or is recovering, and then every call that could
 -- begin, end or store one is refused. By induction over the events.
-use Prim.Native.Nat.{ℕ, zero, suc}
+use Prim.Native.Nat.{ℕ, zero, suc, _+_}
 use mathlib.Core.Path.{_≡_, refl, sym, ap, _∙_, subst}
 use mathlib.Core.Bool.{Bool, true, false, false≢true}
 use mathlib.Core.Logic.{_⊎_, inl, inr, _≢_}
@@ -12,8 +12,8 @@ use lib.ListN.{replicate}
 use Rattle.scope.specs.Bytes.{pick}
 use Rattle.scope.specs.Keeper.{recovering, State, Keeper, Answer, done, head, clean, Outcome, refusalOf, noState, isRecovering, inRange, sound, withState, withMedium, storeCell}
 use Rattle.scope.specs.Refusals.{Call, Format, RecoveryStart, RecoveryStep, Begin, Commit, Abort, Force, TableView, Read, WriteBack, Cut, Look, Write, unfit, tests, refusal}
-use Rattle.scope.specs.Calls.{stepAt, performed, unchanged, unless, act}
-use Rattle.scope.specs.History.{Event, call, powerLoss, happen, answers, allowed, Allowed, formatted, Transactions, nothingYet, tell, story, afresh}
+use Rattle.scope.specs.Calls.{commitMade, stepAt, performed, unchanged, unless, act}
+use Rattle.scope.specs.History.{Event, call, appends, powerLoss, happen, answers, allowed, Allowed, formatted, Transactions, nothingYet, tell, story, afresh}
 use Rattle.scope.specs.Demands.{ended, NoneEnded, FirstRecovery}
 use Rattle.scope.proofs.Refusals.{First, first-refusal, Either, call-cases, declined-refused}
 use Rattle.scope.proofs.Callers.{refused-unchanged}
@@ -143,6 +143,13 @@ part-still a x k s u =
       subst (λ (o : Outcome). Shut (o .keeper .state)) (sym r) (subst (λ (g : Keeper). Shut (g .state)) (sym u) s),
     )
 
+-- commit's first step has commit's own tests
+appends-still : (k : Keeper) → Shut (k .state) → Still appends k
+unfolding Still happen
+appends-still k s =
+    let q = shut-refused Commit tt k s in let r = ap (λ n. unless n (record { answer = done (k .state .l + 1); keeper = commitMade k }) k) (q .1) in
+    (rw (ap (λ (o : Outcome). refusalOf (o .answer)) r), subst (λ (o : Outcome). Shut (o .keeper .state)) (sym r) s)
+
 format-still : (n c : ℕ) (k : Keeper) → Shut (k .state) → refusalOf (act (Format n c) k .answer) ≢ 0 → Still (call (Format n c)) k
 unfolding Still happen performed
 format-still n c k s d =
@@ -164,6 +171,7 @@ still (call (WriteBack c)) k s a e = part-still (WriteBack c) tt k s refl
 still (call (Cut p)) k s a e = part-still (Cut p) tt k s refl
 still (call (Look n)) k s a e = part-still (Look n) tt k s refl
 still (call (Write c v)) k s a e = part-still (Write c v) tt k s refl
+still appends k s a e = appends-still k s
 still (powerLoss c f l w) k s a e = (refl, inl refl)
 
 -- all events

@@ -17,9 +17,9 @@ use lib.Seq.{getD-take, length-take-le}
 use Rattle.scope.specs.Bytes.{pick, maxNo, bytesOf, numberOf, numberAt, put}
 use Rattle.scope.specs.Row.{Entry, commitEntry, rowBytes, entryOf, readRow, Reason, unknownKind, hole, rowTests, wrongEntry, Fault, faultless, fault, reasonNo}
 use Rattle.scope.specs.Keeper.{Keeper, noState, inRange, mediumLength, phaseOk, sound, rowAt, cellAt, waitingRow, mediumRow, headBytes, headOk, cellsOf, withState, withMedium, withWaiting, madeTo, storedNext, droppedTo, firstMark, assign, append, storeCell, storeHead}
-use Rattle.scope.specs.Recovery.{rowsOf, anyHolds, entriesFrom, atMost, journal, faultFrom, journalFault, entriesOf, undo, replay, tableOf, differing, allUpdates, restore, rollback}
-use Rattle.scope.specs.Refusals.{RecoveryStart, RecoveryStep, Begin, Commit, Force, WriteBack, Write, lent, lentStart, unfit, notUpdates, full, usedUp, anyFirst, isNone, tests, firstNo, refusal, badRow, told}
-use Rattle.scope.specs.Calls.{stepAt, rolledBack, cleaned, act, performed}
+use Rattle.scope.specs.Recovery.{rowsOf, anyHolds, entriesFrom, atMost, journal, faultFrom, journalFault, entriesOf, undo, replay, tableOf, differing, allUpdates, allEntries, restore, rollback}
+use Rattle.scope.specs.Refusals.{RecoveryStart, RecoveryStep, Begin, Commit, Force, WriteBack, Write, lent, lentStart, unfit, notUpdates, notEntries, full, usedUp, anyFirst, isNone, tests, firstNo, refusal, badRow, told}
+use Rattle.scope.specs.Calls.{commitMade, forced, forcedBy, stepAt, rolledBack, cleaned, act, performed}
 use Rattle.scope.specs.History.{Event, call, happen, after, History, reached, transactions}
 use Rattle.scope.specs.Demands.{Sized, storedJournal, NoHole}
 use Rattle.scope.proofs.Cases.{A, B, anyKeeper, powerLost}
@@ -474,14 +474,14 @@ module _ (n c : ℕ) (k : Keeper) (es : List Event) (past : History n c k es) (x
 -- WHAT IS TOLD OF MEDIA WITH LOST ROWS, N = 2 and C = 4. Case 5's medium: rows 1 to 3 are stored, and h is 0
 abbrev three : Keeper
 three =
-    reached 2 4 anyKeeper (call RecoveryStart ∷ call RecoveryStep ∷ call Begin ∷ call (Write 0 A) ∷ call Commit ∷ call Force ∷ call Force
-    ∷ call Begin ∷ call (Write 0 B) ∷ call Commit ∷ call Force ∷ call (WriteBack 0) ∷ powerLost ∷ [])
+    reached 2 4 anyKeeper (call RecoveryStart ∷ call RecoveryStep ∷ call Begin ∷ call (Write 0 A) ∷ call Commit
+    ∷ call Begin ∷ call (Write 0 B) ∷ call Force ∷ call (WriteBack 0) ∷ powerLost ∷ [])
 
 -- case 6's: row 4 too; and case 7's: recovered, so that h is 3
 abbrev four : Keeper
 four =
-    reached 2 4 anyKeeper (call RecoveryStart ∷ call RecoveryStep ∷ call Begin ∷ call (Write 0 A) ∷ call Commit ∷ call Force ∷ call Force
-    ∷ call Begin ∷ call (Write 0 B) ∷ call Commit ∷ call Force ∷ call (WriteBack 0) ∷ call Force ∷ powerLost ∷ [])
+    reached 2 4 anyKeeper (call RecoveryStart ∷ call RecoveryStep ∷ call Begin ∷ call (Write 0 A) ∷ call Commit
+    ∷ call Begin ∷ call (Write 0 B) ∷ call Force ∷ call (WriteBack 0) ∷ call Commit ∷ powerLost ∷ [])
 
 abbrev ended : Keeper
 ended = after (call RecoveryStart ∷ call RecoveryStep ∷ call RecoveryStep ∷ powerLost ∷ []) three
@@ -534,5 +534,5 @@ holes =
     ∷ []
 
 pub holes-right : map heard holes ≡ map expected holes
-unfolding maxNo bytesOf numberOf numberAt put rowBytes entryOf readRow rowTests wrongEntry inRange mediumLength phaseOk sound rowAt cellAt waitingRow mediumRow headBytes headOk cellsOf noState withState withMedium withWaiting madeTo storedNext droppedTo firstMark assign append storeCell storeHead entriesFrom anyHolds atMost journal faultFrom journalFault undo replay tableOf differing allUpdates restore rollback lent lentStart unfit notUpdates full usedUp anyFirst tests refusal badRow told performed stepAt rolledBack cleaned act happen after
+unfolding maxNo bytesOf numberOf numberAt put rowBytes entryOf readRow rowTests wrongEntry inRange mediumLength phaseOk sound rowAt cellAt waitingRow mediumRow headBytes headOk cellsOf noState withState withMedium withWaiting madeTo storedNext droppedTo firstMark assign append storeCell storeHead entriesFrom anyHolds atMost journal faultFrom journalFault undo replay tableOf differing allUpdates allEntries restore rollback lent lentStart unfit notUpdates notEntries full usedUp anyFirst tests refusal badRow told performed commitMade forced forcedBy stepAt rolledBack cleaned act happen after
 holes-right = refl

@@ -10,7 +10,7 @@ use lib.ListN.{replicate}
 use Rattle.scope.specs.Bytes.{pick}
 use Rattle.scope.specs.Keeper.{Keeper, Answer, refusalOf, valueOf}
 use Rattle.scope.specs.Refusals.{Format, RecoveryStart, RecoveryStep, Begin, Commit, Abort, Force, TableView, Read, WriteBack, Cut, Look, Write}
-use Rattle.scope.specs.History.{Event, call, powerLoss, happen, answers, allowed, Allowed, formatted, History, reached, Writes, Transactions, nothingYet, entryStored, lost, ifDone, accepted, tell, story, transactions, afresh}
+use Rattle.scope.specs.History.{Event, call, appends, powerLoss, happen, answers, allowed, Allowed, formatted, History, reached, Writes, Transactions, nothingYet, entryStored, entryMade, writesOf, allStored, lost, ifDone, accepted, tell, story, transactions, afresh}
 use Rattle.scope.specs.Demands.{RecoversTo, Later}
 use Rattle.scope.proofs.Demand3.{ends-soon}
 
@@ -56,7 +56,7 @@ one L (call (Format n c)) r t p = declined t r (λ v. nothingYet) p
 one L (call RecoveryStart) r t p = kept t (lost t) refl
 one L (call RecoveryStep) r t p = kept t t refl
 one L (call Begin) r t p = same-stored t r (λ v. record { stored = t .stored; made = t .made; begun = [] }) (λ v. refl)
-one L (call Commit) r t p = same-stored t r (λ v. record { stored = t .stored; made = t .made ++ ((v, t .begun) ∷ []); begun = [] }) (λ v. refl)
+one L (call Commit) r t p = if-done t r (λ v. allStored (entryMade v t)) (λ v. (writesOf (entryMade v t .made), refl))
 one L (call Abort) r t p = same-stored t r (λ v. record { stored = t .stored; made = t .made; begun = [] }) (λ v. refl)
 one L (call Force) r t p = if-done t r (λ v. entryStored v (t .stored) (t .made) (t .begun)) (λ v. stored-grows t v)
 one L (call TableView) r t p = kept t t refl
@@ -65,6 +65,7 @@ one L (call (WriteBack c)) r t p = kept t t refl
 one L (call (Cut q)) r t p = kept t t refl
 one L (call (Look n)) r t p = kept t t refl
 one L (call (Write c v)) r t p = same-stored t r (λ x. record { stored = t .stored; made = t .made; begun = t .begun ++ ((c, v) ∷ []) }) (λ x. refl)
+one L appends r t p = same-stored t r (λ v. entryMade v t) (λ v. refl)
 one L (powerLoss c f l w) r t p = kept t (lost t) refl
 
 both : (t u v : Transactions) → Grows t u → Grows u v → Grows t v
@@ -87,7 +88,7 @@ after-some L (e ∷ es) ds k t p =
     ((p .0, rest .0), rest .1)
 
 -- recovery gives the table of what is stored
-recovers : (n c : ℕ) (k : Keeper) (es : List Event) → History n c k es → (ws : List Writes) → transactions n c k es .stored ≡ ws
+pub recovers : (n c : ℕ) (k : Keeper) (es : List Event) → History n c k es → (ws : List Writes) → transactions n c k es .stored ≡ ws
     → RecoversTo n c (reached n c k es) (afresh ws (replicate n 0))
 recovers n c k es h ws e g m s =
     let r = ends-soon n c k es h g m s in (r .0, (r .2 .0, r .2 .1 ∙ ap (λ x. afresh x (replicate n 0)) e))

@@ -12,13 +12,13 @@ use lib.Dec.{ltb, eqb}
 use Rattle.scope.specs.Bytes.{pick, maxNo, bytesOf, numberOf, numberAt, put}
 use Rattle.scope.specs.Row.{Entry, rowBytes, entryOf, readRow, isEntry, Reason, unknownKind, fillerNotZero, notUpdate, hole, rowTests, wrongEntry, wrongUpdate, Fault, faultless, fault, faultAt, lowestFault}
 use Rattle.scope.specs.Keeper.{Keeper, isRun, noState, inRange, mediumLength, phaseOk, sound, rowAt, cellAt, waitingRow, mediumRow, headBytes, headOk, cellsOf, withState, withMedium, withWaiting, madeTo, storedNext, droppedTo, firstMark, assign, append, storeCell, storeHead}
-use Rattle.scope.specs.Recovery.{rowsOf, firstly, anyHolds, entriesFrom, atMost, journal, faultFrom, journalFault, undo, replay, tableOf, differing, allUpdates, restore, rollback}
-use Rattle.scope.specs.Refusals.{Call, Format, RecoveryStart, RecoveryStep, Begin, Commit, Abort, Force, TableView, Read, WriteBack, Cut, Look, Write, lent, lentStart, unfit, notUpdates, full, usedUp, anyFirst, isNone, tests, firstNo, refusal, openFault, badRow, told}
-use Rattle.scope.specs.Calls.{stepAt, rolledBack, cleaned, act, performed}
+use Rattle.scope.specs.Recovery.{rowsOf, firstly, anyHolds, entriesFrom, atMost, journal, faultFrom, journalFault, undo, replay, tableOf, differing, allUpdates, allEntries, restore, rollback}
+use Rattle.scope.specs.Refusals.{Call, Format, RecoveryStart, RecoveryStep, Begin, Commit, Abort, Force, TableView, Read, WriteBack, Cut, Look, Write, lent, lentStart, unfit, notUpdates, notEntries, full, usedUp, anyFirst, isNone, tests, firstNo, refusal, openFault, waitingFault, badRow, told}
+use Rattle.scope.specs.Calls.{commitMade, forced, forcedBy, stepAt, rolledBack, cleaned, act, performed}
 use Rattle.scope.specs.History.{call, powerLoss, happen, after, reached}
 use Rattle.scope.proofs.Represents.{and-true}
 use Rattle.scope.proofs.Reasons.{isNoReason, entry-or-wrong}
-use Rattle.scope.proofs.Told.{isFault, updates-judged, told-nothing}
+use Rattle.scope.proofs.Told.{isFault, updates-judged, rows-judged, told-nothing}
 use Rattle.scope.proofs.Cases.{A, B, anyKeeper}
 
 pub faultless≢fault {ℓ} : {A : Type ℓ} {x : Reason} {m : ℕ} → faultless ≡ fault x m → A
@@ -259,6 +259,11 @@ open-judged k t =
         let last : k .state .o + suc count ≡ k .state .l = omega arith in
         updates-judged k (suc count) (k .state .o) ∙ ap (λ m. not (allUpdates (suc count) m k)) last ∙ h
 
+-- and where a row that is not stored isn't its entry
+waiting-judged : (k : Keeper) → notEntries k ≡ true → isFault (waitingFault k) ≡ true
+unfolding notEntries waitingFault
+waiting-judged k t = rows-judged k (k .state .l - k .state .f) (k .state .f) ∙ t
+
 -- A FAULT IS TOLD EXACTLY BESIDE 2 AND 7
 abbrev pub tells : ℕ → Bool
 tells n = eqb n 2 || eqb n 7
@@ -294,7 +299,7 @@ judges RecoveryStart k =
     (tt, (λ t. sym (journal-judged (numberAt 4 0 m) (numberAt 4 4 m) (numberAt 4 8 m) m) ∙ t, tt))
 judges RecoveryStep k = (tt, (tt, tt))
 judges Begin k = (tt, (tt, (open-judged k, (tt, (tt, tt)))))
-judges Commit k = (tt, (tt, (tt, tt)))
+judges Commit k = (tt, (tt, (tt, (waiting-judged k, tt))))
 judges Abort k = (tt, (tt, (open-judged k, tt)))
 judges Force k =
     let s = k .state in
@@ -331,7 +336,7 @@ module _ (a : Call) (k : Keeper) where
       go true h = h
       go false h = faultless≢fault h
 
--- and what each call tells is the lowest of the rows that it judges: the stored journal, the open transaction's, or one
+-- and what each call tells is the lowest of the rows that it judges: the stored journal, the open transaction's, those not stored, or one
 one-bad : (n : ℕ) (w : Option Reason) (x : Reason) (m : ℕ) → faultAt n w faultless ≡ fault x m → (m ≡ n) × (w ≡ some x)
 one-bad n none x m e = faultless≢fault e
 one-bad n (some y) x m e = (cc, cc)
@@ -359,6 +364,12 @@ module _ (k : Keeper) (x : Reason) (m : ℕ) where
       → LowestBad (λ i. true) (λ n. wrongUpdate (k .state .cells) n (waitingRow k n)) (k .state .l - k .state .o) (k .state .o) x m
   unfolding badRow
   abort-tells e = open-tells (told-bad Abort k x m e)
+
+  pub commit-tells : told Commit k ≡ fault x m
+      → LowestBad (λ i. true) (λ n. wrongEntry (k .state .cells) n (waitingRow k n)) (k .state .l - k .state .f) (k .state .f) x m
+  unfolding badRow waitingFault
+  commit-tells e =
+      fault-lowest (λ n. wrongEntry (k .state .cells) n (waitingRow k n)) (k .state .l - k .state .f) (k .state .f) x m (told-bad Commit k x m e)
 
   pub force-tells : told Force k ≡ fault x m
       → (m ≡ k .state .f + 1) × (wrongEntry (k .state .cells) (k .state .f + 1) (waitingRow k (k .state .f + 1)) ≡ some x)
@@ -395,7 +406,7 @@ opened =
 abbrev booked : Keeper
 booked =
     reached 2 4 anyKeeper
-    (call RecoveryStart ∷ call RecoveryStep ∷ call Begin ∷ call (Write 0 A) ∷ call Commit ∷ call Force ∷ call Force ∷ call (WriteBack 0) ∷ [])
+    (call RecoveryStart ∷ call RecoveryStep ∷ call Begin ∷ call (Write 0 A) ∷ call Commit ∷ call (WriteBack 0) ∷ [])
 
 -- row 2's kind becomes 4, in the waiting rows and on the medium; row 3's filler becomes 1; row 2's update becomes a commit
 abbrev kind4 : ℕ × ℕ
@@ -434,6 +445,13 @@ tellings =
     ∷ record { asks = Force; keeper = spoilt (kind4 ∷ []) opened; number = 0; names = faultless }
     ∷ record { asks = Force; keeper = after (call Force ∷ []) (spoilt (kind4 ∷ []) opened); number = 7; names = fault unknownKind 2 }
     ∷ record { asks = Force; keeper = after (call Force ∷ []) (spoilt commit2 opened); number = 0; names = faultless }
+    -- commit judges rows f+1 to l, each as an entry, and names the lowest bad one; with row 1 stored it is not judged
+    ∷ record { asks = Commit; keeper = spoilt (kind4 ∷ filler3 ∷ []) opened; number = 7; names = fault unknownKind 2 }
+    ∷ record { asks = Commit; keeper = spoilt (filler3 ∷ []) opened; number = 7; names = fault fillerNotZero 3 }
+    ∷ record { asks = Commit; keeper = spoilt commit2 opened; number = 0; names = faultless }
+    ∷ record { asks = Commit; keeper = spoilt ((4, 4) ∷ []) opened; number = 7; names = fault unknownKind 1 }
+    ∷ record { asks = Commit; keeper = spoilt ((4, 4) ∷ []) (after (call Force ∷ []) opened); number = 0; names = faultless }
+    ∷ record { asks = Commit; keeper = spoilt ((4, 4) ∷ []) (after (call Abort ∷ []) opened); number = 3; names = faultless }
     -- recovery start: row 1 reads and row 2 does not; both are bad; row 2 has not its number, and so ends the journal
     ∷ record { asks = RecoveryStart; keeper = worn (storedKind4 ∷ []) booked; number = 2; names = fault unknownKind 2 }
     ∷ record { asks = RecoveryStart; keeper = worn (storedKind4 ∷ (37, 1) ∷ []) booked; number = 2; names = fault fillerNotZero 1 }
@@ -450,5 +468,5 @@ tellings =
     ∷ []
 
 pub tellings-right : map heard tellings ≡ map expected tellings
-unfolding maxNo bytesOf numberOf numberAt put rowBytes entryOf readRow rowTests wrongEntry wrongUpdate lowestFault inRange mediumLength phaseOk sound rowAt cellAt waitingRow mediumRow headBytes headOk cellsOf noState withState withMedium withWaiting madeTo storedNext droppedTo firstMark assign append storeCell storeHead entriesFrom anyHolds atMost journal faultFrom journalFault undo replay tableOf differing allUpdates restore rollback lent lentStart unfit notUpdates full usedUp anyFirst tests refusal openFault badRow told performed stepAt rolledBack cleaned act happen after
+unfolding maxNo bytesOf numberOf numberAt put rowBytes entryOf readRow rowTests wrongEntry wrongUpdate lowestFault inRange mediumLength phaseOk sound rowAt cellAt waitingRow mediumRow headBytes headOk cellsOf noState withState withMedium withWaiting madeTo storedNext droppedTo firstMark assign append storeCell storeHead entriesFrom anyHolds atMost journal faultFrom journalFault undo replay tableOf differing allUpdates allEntries restore rollback lent lentStart unfit notUpdates notEntries full usedUp anyFirst tests refusal openFault waitingFault badRow told performed commitMade forced forcedBy stepAt rolledBack cleaned act happen after
 tellings-right = refl

@@ -9,11 +9,11 @@ use native.Mathlib.Omega.{arith}
 use borrow.Author.Tests.{eq-eqb, ne-eqb}
 use lib.Dec.{eqb}
 use Rattle.scope.specs.Bytes.{pick}
-use Rattle.scope.specs.Row.{Reason, Fault, faultless, fault, faultAt, lowestFault, readRow, isUpdate, wrongUpdate}
+use Rattle.scope.specs.Row.{Reason, Fault, faultless, fault, faultAt, lowestFault, readRow, isUpdate, wrongEntry, wrongUpdate}
 use Rattle.scope.specs.Keeper.{Keeper, waitingRow}
-use Rattle.scope.specs.Recovery.{allUpdates}
+use Rattle.scope.specs.Recovery.{allUpdates, allEntries}
 use Rattle.scope.specs.Refusals.{Call, refusal, badRow, told}
-use Rattle.scope.proofs.Reasons.{isNoReason, update-or-wrong}
+use Rattle.scope.proofs.Reasons.{isNoReason, entry-or-wrong, update-or-wrong}
 
 abbrev pub isFault : Fault → Bool
 isFault faultless = false
@@ -65,6 +65,17 @@ module _ (k : Keeper) where
   pub updates-judged : (count n : ℕ) → isFault (lowestFault (λ m. wrongUpdate (k .state .cells) m (waitingRow k m)) count n) ≡ not (allUpdates count (n + count) k)
   unfolding judged
   updates-judged count n = found (λ m. wrongUpdate (k .state .cells) m (waitingRow k m)) count n ∙ ap not (sym (falling count n))
+
+  -- and exactly where not all are entries
+  rises : (count n : ℕ) → allEntries count n k ≡ rising (λ m. isNoReason (wrongEntry (k .state .cells) m (waitingRow k m))) count n
+  unfolding allEntries rising
+  rises zero n = refl
+  rises (suc count) n =
+      ap (λ b. b && allEntries count (n + 1) k) (entry-or-wrong (k .state .cells) (n + 1) (waitingRow k (n + 1)))
+      ∙ ap (λ b. isNoReason (wrongEntry (k .state .cells) (n + 1) (waitingRow k (n + 1))) && b) (rises count (n + 1))
+
+  pub rows-judged : (count n : ℕ) → isFault (lowestFault (λ m. wrongEntry (k .state .cells) m (waitingRow k m)) count n) ≡ not (allEntries count n k)
+  rows-judged count n = found (λ m. wrongEntry (k .state .cells) m (waitingRow k m)) count n ∙ ap not (sym (rises count n))
 
 -- by the refusal's number
 

@@ -6,18 +6,18 @@ use mathlib.Core.List.{List, [], _∷_, _++_, map}
 use Rattle.scope.specs.Bytes.{maxNo, bytesOf, numberOf, numberAt, put}
 use Rattle.scope.specs.Row.{rowBytes, entryOf, readRow}
 use Rattle.scope.specs.Keeper.{Answer, done, refused, cell, head, inRange, mediumLength, phaseOk, sound, rowAt, cellAt, waitingRow, mediumRow, headBytes, headOk, cellsOf, withState, withMedium, withWaiting, madeTo, storedNext, droppedTo, firstMark, assign, append, storeCell, storeHead}
-use Rattle.scope.specs.Refusals.{RecoveryStart, RecoveryStep, Begin, Commit, Abort, Force, Read, WriteBack, Cut, Write, lent, lentStart, unfit, notUpdates, full, usedUp, anyFirst, tests, refusal}
-use Rattle.scope.specs.Recovery.{anyHolds, entriesFrom, atMost, journal, undo, replay, tableOf, differing, allUpdates, restore, rollback}
-use Rattle.scope.specs.Calls.{stepAt, rolledBack, cleaned, act, performed}
+use Rattle.scope.specs.Refusals.{RecoveryStart, RecoveryStep, Begin, Commit, Abort, Force, Read, WriteBack, Cut, Write, lent, lentStart, unfit, notUpdates, notEntries, full, usedUp, anyFirst, tests, refusal}
+use Rattle.scope.specs.Recovery.{anyHolds, entriesFrom, atMost, journal, undo, replay, tableOf, differing, allUpdates, allEntries, restore, rollback}
+use Rattle.scope.specs.Calls.{commitMade, forced, forcedBy, stepAt, rolledBack, cleaned, act, performed}
 use Rattle.scope.specs.History.{Event, call, happen, answers, after, reached, formatted, wanted}
 use Rattle.scope.proofs.Cases.{A, B, anyKeeper, powerLost}
 
--- recovered after format, and a transaction of one write, committed and stored
+-- recovered after format, and a transaction of one write, committed
 abbrev opened : List Event
 opened = call RecoveryStart ∷ call RecoveryStep ∷ []
 
 abbrev booked : ℕ → ℕ → List Event
-booked c v = call Begin ∷ call (Write c v) ∷ call Commit ∷ call Force ∷ call Force ∷ []
+booked c v = call Begin ∷ call (Write c v) ∷ call Commit ∷ []
 
 -- power is lost, and recovery follows
 abbrev restarted : List Event
@@ -82,7 +82,7 @@ ways =
     }
     -- the head before the last differing cell: two cells differ, and each step stores one
     ∷ record {
-      story = call Begin ∷ call (Write 0 A) ∷ call (Write 1 B) ∷ call Commit ∷ call Force ∷ call Force ∷ call Force ∷ [];
+      story = call Begin ∷ call (Write 0 A) ∷ call (Write 1 B) ∷ call Commit ∷ [];
       says = cell 0 ∷ cell 1 ∷ head ∷ [];
       tables = both 0 0 ∷ both A 0 ∷ both A B ∷ [];
       wants = both A B;
@@ -97,7 +97,7 @@ ways =
     ∷ []
 
 pub gone-right : map told ways ≡ map expected ways
-unfolding maxNo bytesOf numberOf numberAt put rowBytes entryOf readRow inRange mediumLength phaseOk sound rowAt cellAt waitingRow mediumRow headBytes headOk cellsOf withState withMedium withWaiting madeTo storedNext droppedTo firstMark assign append storeCell storeHead entriesFrom anyHolds atMost journal undo replay tableOf differing allUpdates restore rollback lent lentStart unfit notUpdates full usedUp anyFirst tests refusal performed stepAt rolledBack cleaned act happen answers after
+unfolding maxNo bytesOf numberOf numberAt put rowBytes entryOf readRow inRange mediumLength phaseOk sound rowAt cellAt waitingRow mediumRow headBytes headOk cellsOf withState withMedium withWaiting madeTo storedNext droppedTo firstMark assign append storeCell storeHead entriesFrom anyHolds atMost journal undo replay tableOf differing allUpdates allEntries restore rollback lent lentStart unfit notUpdates notEntries full usedUp anyFirst tests refusal performed commitMade forced forcedBy stepAt rolledBack cleaned act happen answers after
 gone-right = refl
 
 -- what a client hears of two cells: each its own value, and after an abort the value before
@@ -106,5 +106,5 @@ reading =
     call Begin ∷ call (Write 0 A) ∷ call (Write 1 B) ∷ call (Read 0) ∷ call (Read 1) ∷ call Abort ∷ call Begin ∷ call (Read 1) ∷ []
 
 pub reads-apart : answers reading (after opened (formatted 2 4 anyKeeper)) ≡ done 0 ∷ done 0 ∷ done 0 ∷ done A ∷ done B ∷ done 0 ∷ done 0 ∷ done 0 ∷ []
-unfolding maxNo bytesOf numberOf numberAt put rowBytes entryOf readRow inRange mediumLength phaseOk sound rowAt cellAt waitingRow mediumRow headBytes headOk cellsOf withState withMedium withWaiting madeTo storedNext droppedTo firstMark assign append storeCell storeHead entriesFrom anyHolds atMost journal undo replay tableOf differing allUpdates restore rollback lent lentStart unfit notUpdates full usedUp anyFirst tests refusal performed stepAt rolledBack cleaned act happen answers after
+unfolding maxNo bytesOf numberOf numberAt put rowBytes entryOf readRow inRange mediumLength phaseOk sound rowAt cellAt waitingRow mediumRow headBytes headOk cellsOf withState withMedium withWaiting madeTo storedNext droppedTo firstMark assign append storeCell storeHead entriesFrom anyHolds atMost journal undo replay tableOf differing allUpdates allEntries restore rollback lent lentStart unfit notUpdates notEntries full usedUp anyFirst tests refusal performed commitMade forced forcedBy stepAt rolledBack cleaned act happen answers after
 reads-apart = refl

@@ -1,16 +1,16 @@
 // A terminal over the keeper on a real file. It reads orders, one a line, and answers each; each store is in the file, at its own place and
-// synced, before its order is answered, so that killing the terminal at any moment is a loss of power between two calls, or before the last store.
-pub mod file;
-pub mod storing;
-
+// synced, before the next and before its order is answered, so that killing the terminal at any moment is a loss of power between two calls, between
+// two steps of a commit, or before the last store.
+use card::file;
+use card::file::Session;
+use card::file::Told;
+use card::storing;
+use card::storing::Rows;
 use console::Asked;
 use console::Did;
-use file::Session;
-use file::Told;
 use orders::Order;
 use orders::say;
 use orders::show;
-use storing::Rows;
 
 // What a call answered.
 fn answer(asked: Asked, did: Did) {
@@ -42,7 +42,18 @@ fn answer(asked: Asked, did: Did) {
     say::pair(b"answer=", did.value);
 }
 
-// A call's store is brought to the file; only then it is answered.
+// What a call stored, brought to the file: its one store, or a commit's rows.
+fn bring(session: Session, asked: Asked, did: Did, medium: &[u8]) -> bool {
+    if asked.call != console::COMMIT {
+        return file::bring(session.fd, medium, did.at, did.size);
+    }
+    let before = session.state;
+    let after = did.state;
+    let slots = after.numbers.slots;
+    storing::bring_rows(session.fd, medium, slots, before.numbers.f, after.numbers.f)
+}
+
+// A call's stores are brought to the file; only then it is answered.
 fn finish(session: Session, asked: Asked, did: Did, medium: &[u8]) -> Told {
     let state = did.state;
     let next = Session {
@@ -58,7 +69,7 @@ fn finish(session: Session, asked: Asked, did: Did, medium: &[u8]) -> Told {
             on: true,
         };
     }
-    if file::bring(session.fd, medium, did.at, did.size) {} else {
+    if bring(session, asked, did, medium) {} else {
         return file::failed(next);
     }
     answer(asked, did);

@@ -204,13 +204,13 @@ pub fn read(what: &[u8], d: Desk, cell: u32) {
 }
 
 pub fn commit(what: &[u8], d: Desk) -> Desk {
-    let medium = d.medium;
+    let mut medium = d.medium;
     let current = d.current;
     let first = d.first;
     let last = d.last;
     let mut waiting = d.waiting;
     let state = d.state;
-    let out = state.commit(&mut waiting);
+    let out = state.commit(&mut medium, &mut waiting);
     told(what, out);
     let next = out.state;
     Desk {
@@ -223,11 +223,20 @@ pub fn commit(what: &[u8], d: Desk) -> Desk {
     }
 }
 
-// A commit that is lent the medium for the waiting rows.
+// A commit that is lent a medium's bytes for the waiting rows, and one that is lent waiting rows for the medium.
 pub fn commit_medium(what: &[u8], d: Desk) {
     let mut medium = d.medium;
+    let mut rows = d.medium;
     let state = d.state;
-    let out = state.commit(&mut medium);
+    let out = state.commit(&mut medium, &mut rows);
+    told(what, out);
+}
+
+pub fn commit_rows(what: &[u8], d: Desk) {
+    let mut medium = d.waiting;
+    let mut rows = d.waiting;
+    let state = d.state;
+    let out = state.commit(&mut medium, &mut rows);
     told(what, out);
 }
 

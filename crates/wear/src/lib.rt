@@ -50,7 +50,7 @@ fn judge(out: Outcome, n: u32, e: u32, book: &mut [u64]) {
 }
 
 // Where the row after entry n's begins.
-fn row_after(n: u32, slots: u32) -> usize
+pub fn row_after(n: u32, slots: u32) -> usize
     ensures { λ r. ⌜ r ≤ 1056 ⌝ }
 {
     if slots == 0 {

@@ -3,10 +3,10 @@ use Prim.Native.Nat.{ℕ, zero, suc, _-_}
 use mathlib.Core.Path.{_≡_, refl, sym, ap, _∙_}
 use mathlib.Core.Option.{Option, none, some}
 use native.Mathlib.Nat.{zero-add}
-use Rattle.scope.specs.Row.{Entry, update, commitEntry, abortEntry, readRow, wrongUpdate}
+use Rattle.scope.specs.Row.{Entry, update, commitEntry, abortEntry, readRow, wrongEntry, wrongUpdate}
 use Rattle.scope.specs.Keeper.{Keeper, waitingRow, assign}
 use Rattle.scope.specs.Recovery.{restore, rollback}
-use Rattle.journal.specs.Entries.{entryIn}
+use Rattle.journal.specs.Entries.{entryIn, wrongIn}
 use Rattle.workspace.specs.Values.{Values, values, assigned, restored, rolledFrom, wrongUpdateIn}
 
 -- a keeper with these values, and the rest of k
@@ -20,6 +20,10 @@ waiting-entry k m = rw zero-add
 pub waiting-wrong : (k : Keeper) (m : ℕ) → wrongUpdate (k .state .cells) m (waitingRow k m) ≡ wrongUpdateIn (k .waiting) (k .state .slots) (k .state .cells) m
 unfolding waitingRow wrongUpdateIn
 waiting-wrong k m = rw zero-add
+
+pub waiting-unread : (k : Keeper) (m : ℕ) → wrongEntry (k .state .cells) m (waitingRow k m) ≡ wrongIn (k .waiting) 0 (k .state .slots) (k .state .cells) m
+unfolding waitingRow wrongIn
+waiting-unread k m = rw zero-add
 
 restore-values : (k : Keeper) (n : ℕ) (o : Option Entry) (d : Values) → withValues k (restored n o d) ≡ restore n o (withValues k d)
 unfolding restored restore assigned assign values

@@ -2,11 +2,13 @@
 -- proofs/Alike.antt shows that these say the same.
 use Prim.Native.Nat.{ℕ, zero, suc, _+_, _-_}
 use mathlib.Core.Path.{_≡_}
+use mathlib.Core.Bool.{Bool, true, false}
 use mathlib.Core.List.{List}
 use mathlib.Core.Option.{Option, none, some}
 use lib.ListN.{length, getD, set, take, drop}
-use Rattle.scope.specs.Row.{Entry, update, commitEntry, abortEntry, Reason, wrongUpdate}
+use Rattle.scope.specs.Row.{Entry, update, commitEntry, abortEntry, isUpdate, isEntry, Reason, wrongUpdate}
 use Rattle.scope.specs.Keeper.{firstMark, rowAt}
+use Rattle.journal.specs.Entries.{wrongIn}
 
 pub record Values : Type 0 where
   pub current : List ℕ
@@ -41,3 +43,13 @@ rolledFrom e n (suc count) m d = rolledFrom e n count (m - 1) (restored n (e m) 
 -- what is wrong with the waiting row of entry n, which must be that update
 unfoldable pub wrongUpdateIn : List ℕ → ℕ → ℕ → ℕ → Option Reason
 wrongUpdateIn waiting slots cells n = wrongUpdate cells n (take 32 (drop (0 + rowAt slots n) waiting))
+
+-- whether what a row reads as is due: an update where updates are asked for, else any entry
+unfoldable pub isDue : Bool → Option Entry → Bool
+isDue true e = isUpdate e
+isDue false e = isEntry e
+
+-- what is wrong with the waiting row of entry n, which must be that entry and, where updates are asked for, that update
+unfoldable pub wrongDue : Bool → List ℕ → ℕ → ℕ → ℕ → Option Reason
+wrongDue true waiting = wrongUpdateIn waiting
+wrongDue false waiting = wrongIn waiting 0

@@ -3,12 +3,12 @@
 ghost use mathlib.Core.Path.{_≡_};
 ghost use Prim.Native.Nat.{_-_, _<_};
 ghost use lib.ListN.{length};
-ghost use Rattle.scope.specs.Row.{faultless, faultAt, lowestFault};
+ghost use Rattle.scope.specs.Row.{faultless, faultAt, lowestFault, faultEntry};
 ghost use Rattle.scope.specs.Keeper.{firstMark};
 ghost use Rattle.scope.specs.Refusals.{anyFirst};
 ghost use Rattle.row.specs.Row.{faultOf};
 ghost use Rattle.journal.specs.Entries.{Rows, entryIn};
-ghost use Rattle.workspace.specs.Values.{values, Fits, assigned, restored, rolledFrom, wrongUpdateIn};
+ghost use Rattle.workspace.specs.Values.{values, Fits, assigned, restored, rolledFrom, isDue, wrongDue};
 use journal::entry_at;
 use medium::layout::index;
 use row::Entry;
@@ -93,15 +93,57 @@ pub fn rollback(
     }
 }
 
-// What is wrong with waiting row m, which must be that update.
-fn update_fault(waiting: &[u8], slots: u32, cells: u32, m: u32) -> Fault
+// Whether waiting row m is that entry and, where updates are asked for, that update.
+fn is_due(waiting: &[u8], slots: u32, cells: u32, m: u32, updates: bool) -> bool
     requires { ⌜ Rows (now waiting) 0 slots m ⌝ }
-    ensures { λ r. ⌜ faultOf r ≡ faultAt m (wrongUpdateIn (now (waiting .entry)) slots cells m) faultless ⌝ }
+    ensures { λ r. ⌜ r ≡ isDue updates (entryIn (now (waiting .entry)) 0 slots cells m) ⌝ }
+{
+    let Row::Holds(what) = entry_at(waiting, 0, slots, cells, m) else {
+        return false;
+    };
+    if updates {} else {
+        return true;
+    }
+    let Entry::Update {
+        cell: _,
+        old: _,
+        new: _,
+    } = what
+    else {
+        return false;
+    };
+    true
+}
+
+// The lowest of waiting rows from + 1, .., to that isn't that entry or, where updates are asked for, that update; 0: each is. Goes over
+// those rows up to that one. The number alone goes through the loop: what is wrong with that row is asked only where there is one.
+pub fn lowest_bad(waiting: &[u8], slots: u32, cells: u32, from: u32, to: u32, updates: bool) -> u32
+    requires { ⌜ Rows (now waiting) 0 slots 1 ⌝ }
+    ensures { λ r. ⌜ r ≡ faultEntry (lowestFault (wrongDue updates (now (waiting .entry)) slots cells) (to - from) from) ⌝ }
+{
+    let mut m = from;
+    while m < to {
+        m += 1;
+        let due = is_due(waiting, slots, cells, m, updates);
+        if due {} else {
+            return m;
+        }
+    }
+    0
+}
+
+// What is wrong with waiting row m, which must be that entry and, where updates are asked for, that update.
+pub fn row_fault(waiting: &[u8], slots: u32, cells: u32, m: u32, updates: bool) -> Fault
+    requires { ⌜ Rows (now waiting) 0 slots m ⌝ }
+    ensures { λ r. ⌜ faultOf r ≡ faultAt m (wrongDue updates (now (waiting .entry)) slots cells m) faultless ⌝ }
 {
     let found = entry_at(waiting, 0, slots, cells, m);
     let Row::Holds(what) = found else {
         return fault_in(found, m);
     };
+    if updates {} else {
+        return Fault::None;
+    }
     let Entry::Update {
         cell: _,
         old: _,
@@ -113,22 +155,6 @@ fn update_fault(waiting: &[u8], slots: u32, cells: u32, m: u32) -> Fault
             entry: m,
         };
     };
-    Fault::None
-}
-
-// The lowest of waiting rows o + 1, .., l that isn't that update. Goes over those rows up to that one.
-pub fn lowest_fault(waiting: &[u8], slots: u32, cells: u32, o: u32, l: u32) -> Fault
-    requires { ⌜ Rows (now waiting) 0 slots 1 ⌝ }
-    ensures { λ r. ⌜ faultOf r ≡ lowestFault (wrongUpdateIn (now (waiting .entry)) slots cells) (l - o) o ⌝ }
-{
-    let mut m = o;
-    while m < l {
-        m += 1;
-        let found = update_fault(waiting, slots, cells, m);
-        let Fault::None = found else {
-            return found;
-        };
-    }
     Fault::None
 }
 

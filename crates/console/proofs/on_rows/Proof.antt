@@ -6,7 +6,7 @@ use Rattle.console.proofs.on_rows.Statement.{statement}
 use Rattle.console.proofs.on_rows.Tie as tie
 
 returns : tie.Need-returns
-returns c = commit-made _ _ _ _ _ _ _ _ _ _ _ _ (omega arith) (c .before .before .before .commit .ensures) (c .plain .ensures)
+returns c = commit-made _ _ _ _ _ _ _ _ _ _ _ _ _ (omega arith) (c .before .before .before .before .before .commit .ensures) (c .plain .ensures)
 
 returns-2 : tie.Need-returns-2
 returns-2 c = read-made _ _ _ _ _ _ _ _ _ _ _ (omega arith) (c .before .read .ensures) (c .plain2 .ensures)
@@ -17,6 +17,7 @@ on-rows-spec =
     (tie.spec
     (λ c κs. search needs)
     (λ c κs. search needs)
+    (λ c. search needs)
     (λ c. search needs)
     returns
     (λ c κs. search needs)

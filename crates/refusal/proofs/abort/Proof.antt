@@ -5,8 +5,8 @@ use mathlib.Core.Bool.{true, false}
 use native.Mathlib.Omega.{arith}
 use Rattle.state.proofs.Facts.{sound-facts}
 use Rattle.state.proofs.Exits.{unfit-stop, fit-pass, stop, pass}
-use Rattle.refusal.proofs.Lengths.{rows-fit, workspaces-fit}
-use Rattle.refusal.proofs.Faults.{said, said-7, none-open, open-run, none-found, one-found, abort-names}
+use Rattle.refusal.proofs.Lengths.{waiting-fits}
+use Rattle.refusal.proofs.Faults.{said, said-7, none-found, one-found, abort-names}
 use Rattle.refusal.proofs.Tables.{abort-early, abort-late, unsound, unlent, fit}
 use Rattle.refusal.proofs.abort.Statement.{statement}
 use Rattle.refusal.proofs.abort.Tie as tie
@@ -30,6 +30,24 @@ returns-3 c =
     let p5 = p4 .before in
     said _ _ _ 10 (c .plain3 .ensures) (abort-early _ _ _ _ _ (p5 .sound .ensures) refl _ _ _ _ _ (p3 .fits-workspaces .ensures) refl 10 (fit-pass _ 10 _ (fit _ _ (p4 .if1 .taken) (p2 .if2 .taken)) (stop _ 10 0 (sym (d .before .is-recovering .ensures) ∙ (d .if3 .taken)))) (λ z. omega arith)) (λ z. omega arith) (λ z. omega arith)
 
+open-bad-requires : tie.Need-open-bad-requires
+open-bad-requires c κs =
+    let p2 = c .before .before in
+    let p3 = p2 .before in
+    let p4 = p3 .before in
+    let p5 = p4 .before in
+    let a = p5 .before .before .before .before .before .args in
+    waiting-fits (a .numbers) (a .phase) (a .current .now) (a .first .now) (a .last .now) (a .waiting .now) _ (p3 .fits-workspaces .ensures) (p2 .if2 .taken) (sound-facts (a .numbers) (a .phase) (sym (p5 .sound .ensures) ∙ (p4 .if1 .taken))) 1 (omega arith)
+
+row-fault-requires : tie.Need-row-fault-requires
+row-fault-requires c κs =
+    let p4 = c .before .before .before .before in
+    let p5 = p4 .before in
+    let p6 = p5 .before in
+    let p7 = p6 .before in
+    let a = p7 .before .before .before .before .before .args in
+    waiting-fits (a .numbers) (a .phase) (a .current .now) (a .first .now) (a .last .now) (a .waiting .now) _ (p5 .fits-workspaces .ensures) (p4 .if2 .taken) (sound-facts (a .numbers) (a .phase) (sym (p7 .sound .ensures) ∙ (p6 .if1 .taken))) _ (omega arith)
+
 returns-4 : tie.Need-returns-4
 returns-4 c =
     let p1 = c .before in
@@ -40,48 +58,20 @@ returns-4 c =
     let p6 = p5 .before in
     let p7 = p6 .before in
     let p8 = p7 .before in
-    said _ _ _ 0 (c .plain4 .ensures) (abort-late _ _ _ _ _ (p8 .sound .ensures) refl _ _ _ _ _ (p6 .fits-workspaces .ensures) refl 0 0 false (fit-pass _ 0 _ (fit _ _ (p7 .if1 .taken) (p5 .if2 .taken)) (pass _ 10 0 0 (sym (p4 .is-recovering .ensures) ∙ (p3 .if3 .left)) refl)) refl (none-open _ _ _ _ (p2 .is-run .ensures) (p1 .if4 .left)) refl) (λ z. omega arith) (λ z. omega arith)
-
-lowest-fault-requires : tie.Need-lowest-fault-requires
-lowest-fault-requires c κs =
-    let p4 = c .before .before .before .before in
-    let p5 = p4 .before in
-    let p6 = p5 .before in
-    let p7 = p6 .before in
-    let a = p7 .before .before .before .before .before .args in
-    let s = sound-facts (a .numbers) (a .phase) (sym (p7 .sound .ensures) ∙ (p6 .if1 .taken)) in
-    let d = workspaces-fit (a .numbers .cells) (a .numbers .slots) (a .current .now) (a .first .now) (a .last .now) (a .waiting .now) _ (p5 .fits-workspaces .ensures) (p4 .if2 .taken) in
-    rows-fit _ _ _ 0 1 s (omega arith) (omega arith)
+    let p9 = p8 .before in
+    said-7 _ _ _ _ (c .bad .ensures) (abort-late _ _ _ _ _ (p9 .sound .ensures) refl _ _ _ _ _ (p7 .fits-workspaces .ensures) refl 0 7 true (fit-pass _ 0 _ (fit _ _ (p8 .if1 .taken) (p6 .if2 .taken)) (pass _ 10 0 0 (sym (p5 .is-recovering .ensures) ∙ (p4 .if3 .left)) refl)) refl (one-found _ _ _ _ (p3 .open-bad .ensures) (p2 .if4 .taken)) refl) (abort-names _ _ _ _ _ _ _ _ (p3 .open-bad .ensures) (p2 .if4 .taken) _ (p1 .row-fault .ensures))
 
 returns-5 : tie.Need-returns-5
 returns-5 c =
     let p1 = c .before in
-    let p3 = p1 .before .before in
+    let p2 = p1 .before in
+    let p3 = p2 .before in
     let p4 = p3 .before in
     let p5 = p4 .before in
     let p6 = p5 .before in
     let p7 = p6 .before in
     let p8 = p7 .before in
-    let p9 = p8 .before in
-    let p10 = p9 .before in
-    let p11 = p10 .before in
-    let found = open-run _ _ _ _ (p5 .is-run .ensures) _ (p4 .if4 .taken) (p3 .lowest-fault .ensures) in
-    said-7 _ _ _ _ (c .bad .ensures) (abort-late _ _ _ _ _ (p11 .sound .ensures) refl _ _ _ _ _ (p9 .fits-workspaces .ensures) refl 0 7 true (fit-pass _ 0 _ (fit _ _ (p10 .if1 .taken) (p8 .if2 .taken)) (pass _ 10 0 0 (sym (p7 .is-recovering .ensures) ∙ (p6 .if3 .left)) refl)) refl (one-found _ _ _ _ found _ _ (p1 .enum-told2 .given .1)) refl) (abort-names _ _ _ _ _ _ _ _ found _ _ (p1 .enum-told2 .given .1))
-
-returns-6 : tie.Need-returns-6
-returns-6 c =
-    let p1 = c .before in
-    let p3 = p1 .before .before in
-    let p4 = p3 .before in
-    let p5 = p4 .before in
-    let p6 = p5 .before in
-    let p7 = p6 .before in
-    let p8 = p7 .before in
-    let p9 = p8 .before in
-    let p10 = p9 .before in
-    let p11 = p10 .before in
-    let found = open-run _ _ _ _ (p5 .is-run .ensures) _ (p4 .if4 .taken) (p3 .lowest-fault .ensures) in
-    said _ _ _ 0 (c .plain5 .ensures) (abort-late _ _ _ _ _ (p11 .sound .ensures) refl _ _ _ _ _ (p9 .fits-workspaces .ensures) refl 0 0 false (fit-pass _ 0 _ (fit _ _ (p10 .if1 .taken) (p8 .if2 .taken)) (pass _ 10 0 0 (sym (p7 .is-recovering .ensures) ∙ (p6 .if3 .left)) refl)) refl (none-found _ _ _ _ found (p1 .enum-told .given .1)) refl) (λ z. omega arith) (λ z. omega arith)
+    said _ _ _ 0 (c .plain4 .ensures) (abort-late _ _ _ _ _ (p8 .sound .ensures) refl _ _ _ _ _ (p6 .fits-workspaces .ensures) refl 0 0 false (fit-pass _ 0 _ (fit _ _ (p7 .if1 .taken) (p5 .if2 .taken)) (pass _ 10 0 0 (sym (p4 .is-recovering .ensures) ∙ (p3 .if3 .left)) refl)) refl (none-found _ _ _ _ (p2 .open-bad .ensures) (p1 .if4 .left)) refl) (λ z. omega arith) (λ z. omega arith)
 
 pub abort-spec : {M : Type 1} → statement M
 abort-spec =
@@ -96,13 +86,9 @@ abort-spec =
     (λ c κs. search needs)
     (λ c κs. search needs)
     returns-3
-    (λ c κs. search needs)
+    open-bad-requires
+    row-fault-requires
     (λ c κs. search needs)
     returns-4
-    lowest-fault-requires
-    (λ c. search needs)
-    (λ c. search needs)
     (λ c κs. search needs)
-    returns-5
-    (λ c κs. search needs)
-    returns-6)
+    returns-5)

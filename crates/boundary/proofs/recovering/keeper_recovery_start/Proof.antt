@@ -12,10 +12,9 @@ returns-2 : tie.Need-returns-2
 returns-2 c =
     let p3 = c .before .before .before in
     let p6 = p3 .before .before .before in
-    let p7 = p6 .before in
-    let p14 = p7 .before .before .before .before .before .before .before in (
-      start-crossed _ _ _ _ _ _ (omega arith) (p14 .recovery-start .result .state) _ _ _ _ _ _ _ _ (p14 .recovery-start .ensures .0) (c .number-of .ensures) (p3 .put-state .ensures),
-      start-tells _ _ _ _ _ _ (omega arith) _ (p14 .recovery-start .ensures .1) _ _ (p7 .fault-reason .ensures) (p6 .fault-entry .ensures),
+    let p15 = p6 .before .before .before .before .before .before .before .before .before in (
+      start-crossed _ _ _ _ _ _ (omega arith) (p15 .recovery-start .result .state) _ _ _ _ _ _ _ _ (p15 .recovery-start .ensures .0) (c .number-of .ensures) (p3 .put-state .ensures),
+      start-tells _ _ _ _ _ _ (omega arith) _ (p15 .recovery-start .ensures .1) _ _ (p6 .tell .ensures),
     )
 
 pub keeper-recovery-start-spec : {M : Type 1} → statement M
@@ -23,7 +22,6 @@ keeper-recovery-start-spec =
     tie.close
     (tie.spec
     returns
-    (λ c κs. search needs)
     (λ c κs. search needs)
     (λ c κs. search needs)
     (λ c κs. search needs)

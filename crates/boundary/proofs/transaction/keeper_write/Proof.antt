@@ -3,7 +3,7 @@ use borrow.Author.Needs.{needs}
 use mathlib.Core.Path.{refl}
 use Rattle.scope.specs.Refusals.{Write}
 use Rattle.boundary.proofs.Crossing.{crossed, no-state}
-use Rattle.boundary.proofs.Made.{write-makes, begins}
+use Rattle.boundary.proofs.Made.{write-makes, has-rest}
 use Rattle.boundary.proofs.SevenNumbers.{holds-state, holds-none}
 use Rattle.boundary.proofs.transaction.keeper_write.Statement.{statement}
 use Rattle.boundary.proofs.transaction.keeper_write.Tie as tie
@@ -17,7 +17,7 @@ put-made-requires c κs =
     let p16 = p10 .before .before .before .before .before .before in
     let p18 = p16 .before .before in
     let h = holds-state _ _ (p18 .state-in .ensures) _ (p16 .s .given .1) in
-    begins _ _ _ _ _ _ (Write _ _) (write-makes _ _) _ (p10 .write .result .state) h _ _ _ _ _ _ (p10 .write .ensures .0)
+    has-rest _ _ _ _ _ _ (Write _ _) _ (write-makes _ _) _ (p10 .write .result .state) h _ _ _ _ _ _ (p10 .write .ensures .0)
 
 returns-2 : tie.Need-returns-2
 returns-2 c =

@@ -26,23 +26,21 @@ returns-2 c =
       done-tells Force s _ [] [] [] _ (c .done .result) _ (p5 .force .ensures .0) (p3 .if1 .left) (done-fault _ _ _ (c .done .ensures)),
     )
 
-store-row-requires : tie.Need-store-row-requires
-store-row-requires c κs =
-    let p4 = c .before .before .before .before in
-    let p6 = p4 .before .before in
-    let p11 = p6 .before .before .before .before .before in
-    let a = p11 .args in
-    let w = force-passed (a .self .numbers) (a .self .phase) (a .medium .now) [] [] [] (a .waiting .now) (sym (p6 .force .ensures .0) ∙ p4 .if1 .left) in
+force-step-requires : tie.Need-force-step-requires
+force-step-requires c κs =
+    let p3 = c .before .before .before in
+    let p5 = p3 .before .before in
+    let a = c .before .before .before .before .before .before .before .before .before .before .args in
+    let w = force-passed (a .self .numbers) (a .self .phase) (a .medium .now) [] [] [] (a .waiting .now) (sym (p5 .force .ensures .0) ∙ p3 .if1 .left) in
     omega (arith, w .0, w .1, w .2)
 
 returns-3 : tie.Need-returns-3
 returns-3 c =
-    let p3 = c .before .before .before in
-    let p8 = p3 .before .before .before .before .before in
+    let p4 = c .before .before .before .before in
+    let p8 = p4 .before .before .before .before in
     let p10 = p8 .before .before in
-    let p15 = p10 .before .before .before .before .before in
-    let s = p15 .args .self in (
-      force-stored s _ _ _ _ (p10 .force .ensures .0) _ _ (p8 .if1 .left) (omega arith) refl (p3 .store-row .ensures) (c .done2 .ensures),
+    let s = p10 .before .before .before .before .before .args .self in (
+      force-stored s _ _ _ _ (p10 .force .ensures .0) _ _ (p8 .if1 .left) (omega arith) (p4 .force-step .ensures) (c .done2 .ensures),
       done-tells Force s _ [] [] [] _ (c .done2 .result) _ (p10 .force .ensures .0) (p8 .if1 .left) (done-fault _ _ _ (c .done2 .ensures)),
     )
 
@@ -57,8 +55,7 @@ force-spec =
     (λ c κs. search needs)
     (λ c. search needs)
     returns-2
-    (λ c. search needs)
-    store-row-requires
+    force-step-requires
     (λ c. search needs)
     (λ c κs. search needs)
     (λ c. search needs)

@@ -1,5 +1,6 @@
-// Storing every entry that waits. Rows that follow one another in one 512-byte sector of the file are brought by one write and
-// one sync, for a card that keeps a sector whole (docs/PLUG.md); the file has all of them before the order is answered.
+// Rows brought to the file: a commit's, one by one; and those of every entry that waits, of which those that follow one another in one
+// 512-byte sector are brought by one write and one sync, for a card that keeps a sector whole (docs/PLUG.md). The file has all of them before
+// the order is answered.
 use crate::file;
 use console::Asked;
 use console::Did;
@@ -17,6 +18,27 @@ pub struct Rows {
     pub fault: Fault,
     pub more: bool,
     pub taken: bool,
+}
+
+// The row of the entry after n, brought and synced.
+fn bring_row(fd: i32, medium: &[u8], slots: u32, n: u32) -> bool {
+    if slots == 0 {
+        return false;
+    }
+    let at = journal::first_row(slots, n);
+    file::bring(fd, medium, at, 32)
+}
+
+// A commit's rows, those of the entries after `from` up to `to`, in that order, each synced before the next.
+pub fn bring_rows(fd: i32, medium: &[u8], slots: u32, from: u32, to: u32) -> bool {
+    let mut n = from;
+    while n < to {
+        if bring_row(fd, medium, slots, n) {} else {
+            return false;
+        }
+        n += 1;
+    }
+    true
 }
 
 fn force() -> Asked {

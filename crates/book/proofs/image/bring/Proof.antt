@@ -1,17 +1,17 @@
--- `book::image::copy` meets its contract. The copy keeps its length, and the bytes that are left fall.
+-- `book::image::bring` meets its contract. The slice keeps its length, and the bytes that are left fall.
 use Prim.Native.Nat.{_-_}
 use borrow.Author.Needs.{needs}
 use lib.ListN.{length}
 use mathlib.Core.Path.{_≡_}
 use native.Mathlib.Omega.{arith}
-use Rattle.book.proofs.image.copy.Statement.{statement}
-use Rattle.book.proofs.image.copy.Tie as tie
+use Rattle.book.proofs.image.bring.Statement.{statement}
+use Rattle.book.proofs.image.bring.Tie as tie
 
 abbrev Inv-loop : tie.InvT-loop
-Inv-loop from to₀ n i₀ to i = length to ≡ length to₀
+Inv-loop from to₀ at end i₀ to i = length to ≡ length to₀
 
 abbrev μ-loop : tie.MeasureT-loop
-μ-loop from to₀ n i₀ to i = n - i
+μ-loop from to₀ at end i₀ to i = end - i
 
 add-i : tie.Need-add-i Inv-loop μ-loop
 add-i c = omega arith
@@ -19,8 +19,8 @@ add-i c = omega arith
 loop-less : tie.Need-loop-less Inv-loop μ-loop
 loop-less c = omega arith
 
-pub copy-spec : {M : Type 1} → statement M
-copy-spec =
+pub bring-spec : {M : Type 1} → statement M
+bring-spec =
     tie.close
     (tie.spec
     Inv-loop

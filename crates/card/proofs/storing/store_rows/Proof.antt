@@ -1,10 +1,10 @@
--- `terminal::storing::store_rows` meets its contract. Every buffer keeps its length, and the turns that are left fall.
+-- `card::storing::store_rows` meets its contract. Every buffer keeps its length, and the turns that are left fall.
 use borrow.Author.Needs.{needs}
 use lib.ListN.{length}
 use mathlib.Core.Path.{_≡_}
 use native.Mathlib.Omega.{arith}
-use Rattle.terminal.proofs.storing.store_rows.Statement.{statement}
-use Rattle.terminal.proofs.storing.store_rows.Tie as tie
+use Rattle.card.proofs.storing.store_rows.Statement.{statement}
+use Rattle.card.proofs.storing.store_rows.Tie as tie
 
 abbrev Inv-loop : tie.InvT-loop
 Inv-loop fd medium₀ current₀ first₀ last₀ waiting₀ rows₀ turns₀ medium current first last waiting rows turns = (length medium ≡ length medium₀) × (length current ≡ length current₀) × (length first ≡ length first₀) × (length last ≡ length last₀) × (length waiting ≡ length waiting₀)
