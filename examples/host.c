@@ -6,8 +6,9 @@
  *
  * Each command but format begins with recovery, and can be killed at any moment.
  *
- * What a host owes the keeper is in `bring`: a call changes one place of the image `medium` at most, and that place goes to the file before
- * the next place does. There are two ways to bring it (docs/PLUG.md says which promise of the card each needs):
+ * What a host owes the keeper is in `bring`: a call changes one place of the image `medium` at most, commit the rows of its entries one after
+ * the other, and each place goes to the file before the next one does. There are two ways to bring it (docs/PLUG.md says which promise of the
+ * card each needs):
  *   store    a write and a sync for each store. Needs a card that stores a head, a row or a cell entirely or not at all.
  *   sector   stores that follow one another in one 512-byte sector wait for each other, and are brought by one write and one sync. Needs a
  *            card that writes a sector entirely or not at all. A transaction of a few rows then costs one sync.
@@ -32,11 +33,12 @@ struct host {
     int fd;
     int by_sector;
     size_t size;                /* the medium's length */
-    size_t from, to;            /* by sector: stored in `medium`, not yet in the file */
+    size_t from, to;            /* by sector: brought to `card`, not yet in the file */
     unsigned long syncs;
     uint32_t reason, entry;     /* the bad row that the last refusal names, zeros where it names none */
     uint32_t state[KEEPER_STATE];
     uint8_t medium[MOST + 1];   /* the image, and room to see that a file is too long */
+    uint8_t card[MOST];         /* the file, and what is on its way there: commit's rows are in the image before their turn */
     uint64_t current[MOST_CELLS];
     uint32_t first[MOST_CELLS];
     uint32_t last[MOST_CELLS];
@@ -75,10 +77,10 @@ static void refused(const struct host *h, uint32_t number) {
     exit(1);
 }
 
-/* Bytes of the image, in the file and on the card. If the file does not take them, power is as good as lost: the next start recovers. */
+/* Bytes of `card`, in the file and synced. If the file does not take them, power is as good as lost: the next start recovers. */
 static void put(struct host *h, size_t from, size_t to) {
     while (from < to) {
-        ssize_t n = pwrite(h->fd, h->medium + from, to - from, (off_t)from);
+        ssize_t n = pwrite(h->fd, h->card + from, to - from, (off_t)from);
         if (n < 0 && errno == EINTR) continue;
         if (n <= 0) stop("the file did not take a store");
         from += (size_t)n;
@@ -93,9 +95,11 @@ static void settle(struct host *h) {
     h->from = h->to = 0;
 }
 
-/* What a call stored. Stores reach the card in the order of the calls: one in another sector waits until those before it are there, so the
- * head never gets ahead of the cells that it lets go. */
+/* One store. Stores reach the card in the order of the calls: one in another sector waits until those before it are there, so the head never
+ * gets ahead of the cells that it lets go, nor an entry ahead of those before it. A write by sector may span places between its stores: these
+ * it takes from `card`, as they are there, and not from the image, where a later entry's row may stand already. */
 static void bring(struct host *h, size_t at, size_t size) {
+    memcpy(h->card + at, h->medium + at, size);
     if (!h->by_sector) {
         put(h, at, at + size);
         return;
@@ -109,7 +113,7 @@ static void bring(struct host *h, size_t at, size_t size) {
 static size_t row_place(const struct host *h, uint64_t n) { return 32 + 32 * (size_t)((n - 1) % h->state[C]); }
 static size_t cell_place(const struct host *h, uint64_t cell) { return 32 + 32 * (size_t)h->state[C] + 8 * (size_t)cell; }
 
-/* Every entry that was made is stored. */
+/* Every entry that was made is stored: those of the open transaction, before its cells are written back. */
 static void force_all(struct host *h) {
     uint64_t n;
     do {
@@ -148,26 +152,30 @@ static void write_cell(struct host *h, uint32_t cell, uint64_t value) {
     if (no != 0) refused(h, no);
 }
 
+/* Commit stores every entry that is not stored yet, its own last. Their rows are brought one by one in the order of their numbers: where power
+ * fails before the last one, the transaction has no commit, and recovery leaves nothing of it. */
+static void commit_and_bring(struct host *h) {
+    uint64_t number, n = (uint64_t)h->state[F] + 1;
+    uint32_t no = keeper_commit(STATE(h), MEDIUM(h), WAITING(h), &number, BAD_ROW(h));
+    if (no != 0) refused(h, no);
+    for (; n <= number; n++) bring(h, row_place(h, n), 32);
+}
+
 /* By sector: where the rows that are left of a sector are too few for a transaction like the last one, empty transactions fill them, in the
  * write that is due anyway. The next transaction then begins in the next sector, and one sync is enough for it. */
 static void fill_sector(struct host *h, uint32_t rows) {
-    uint64_t number;
     for (;;) {
         size_t next = row_place(h, (uint64_t)h->state[L] + 1) % SECTOR;
         if (next == 0 || SECTOR - next >= 32 * (size_t)rows) return;
         if (keeper_begin(STATE(h), CURRENT(h), FIRST(h), LAST(h), WAITING(h), BAD_ROW(h)) != 0) return;
-        uint32_t no = keeper_commit(STATE(h), WAITING(h), &number);
-        if (no != 0) refused(h, no);
+        commit_and_bring(h);
     }
 }
 
 static void commit(struct host *h) {
-    uint64_t number;
     uint32_t rows = h->state[L] - h->state[O] + 1;
-    uint32_t no = keeper_commit(STATE(h), WAITING(h), &number);
-    if (no != 0) refused(h, no);
+    commit_and_bring(h);
     if (h->by_sector) fill_sector(h, rows);
-    force_all(h);
     settle(h);
 }
 
@@ -202,6 +210,7 @@ static void open_medium(struct host *h, const char *name) {
         if (n == 0) break;
         h->size += (size_t)n;
     }
+    memcpy(h->card, h->medium, h->size < MOST ? h->size : MOST);
     recover(h);
 }
 
@@ -211,6 +220,7 @@ static void format_new(struct host *h, const char *name, uint32_t cells, uint32_
     if (cells > MOST_CELLS || rows > MOST_ROWS || keeper_format(MEDIUM(h), cells, rows) != 0) stop("CELLS is 1 to 1024, ROWS is 4 to 1024\nrefused=1");
     h->fd = open(name, O_RDWR | O_CREAT | O_EXCL, 0666);
     if (h->fd < 0) stop("the file is there already, or can't be made");
+    memcpy(h->card, h->medium, h->size);
     put(h, 0, h->size);
     if (fsync(h->fd) != 0) stop("the file was not synced");
 }

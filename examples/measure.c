@@ -45,7 +45,7 @@ static void raw_transactions(uint32_t count) {
         for (int j = 0; j < 2; j++) {
             size_t at = row_place(&raw, ++n);
             raw.medium[at] = (uint8_t)n;
-            put(&raw, at, at + 32);
+            bring(&raw, at, 32);
         }
 }
 

@@ -1,8 +1,9 @@
 /* The keeper: a table of cells on a medium that survives power loss, with a journal beside it.
  *
  * Every function here is proved to be the call of document 01 of the same name, for every input: what it answers, the state that it
- * leaves and each byte of what it is lent. Four have no such name: `keeper_read_row` and `keeper_write_row` are its reading and its writing
- * of one row, `keeper_cell_to_order` and `keeper_part_in_hand` the counter's two questions. None of them allocates, keeps a pointer, reads a clock or fails to return.
+ * leaves and each byte of what it is lent; commit is that of ticket 4 of document 02. Four have no such name: `keeper_read_row` and
+ * `keeper_write_row` are its reading and its writing of one row, `keeper_cell_to_order` and `keeper_part_in_hand` the counter's two
+ * questions. None of them allocates, keeps a pointer, reads a clock or fails to return.
  *
  * What the host lends
  *   A buffer is a pointer and a length in elements. The pointer is aligned for its element, the memory is the host's, and a
@@ -46,12 +47,16 @@
  *
  * Rules of use
  *   1. After power loss, and after format: recovery start, then recovery step until the phase is idle.
- *   2. A call changes the image `medium` in one place at most (format: everywhere): a row, a cell or the head. The host makes that
- *      change durable on the real medium before its next call, entirely or not at all, and one change at a time.
- *   3. A transaction is durable once force has answered its commit's number and that store is durable.
+ *   2. A call changes the image `medium` in one place at most: a row, a cell or the head (format: everywhere; commit: rule 3). The host
+ *      makes that change durable on the real medium before its next call, entirely or not at all, and one change at a time.
+ *   3. Commit may change several rows, those of the entries f+1 to l, where f is as before the call and l as after it. Entry n's row is
+ *      the 32 bytes of the image from 32 + 32((n-1) mod C) on. The host brings them to the real medium one by one in that order, each
+ *      durable before the next, and all of them before its next call and before it tells anybody "booked". If power fails in between, the
+ *      transaction is recovered whole or not at all: not, where its last row, the commit's, was not stored.
  *   4. One call at a time: the calls share the state and the buffers.
- *   Stores that follow one another in one 512-byte sector may be brought by one write and one sync, in place of rule 2's one at a
- *   time, where the card writes a sector entirely or not at all (docs/PLUG.md). Stores of two sectors stay in their order.
+ *   Stores that follow one another in one 512-byte sector may be brought by one write and one sync, in place of one at a time in rules 2
+ *   and 3, where the card writes a sector entirely or not at all (docs/PLUG.md). Stores of two sectors stay in their order. What lies
+ *   between the stores of such a write is brought as the real medium has it: in the image a row whose turn has not come may stand there.
  *
  * How to link
  *   scripts/native-archive boundary FOLDER proves the library and writes FOLDER/libboundary.a for this machine (on x86-64 it is the
@@ -125,9 +130,12 @@ uint32_t keeper_write(uint32_t *state, size_t state_len, uint32_t cell, uint64_t
                       uint64_t *current, size_t current_len, uint32_t *first, size_t first_len,
                       uint32_t *last, size_t last_len, uint8_t *waiting, size_t waiting_len);
 
-/* Commit: ends the open transaction; *value is its entry's number (rule 3). Refuses 1, 10, 3, never for room.
- * Stores nothing. Costs one row. */
-uint32_t keeper_commit(uint32_t *state, size_t state_len, uint8_t *waiting, size_t waiting_len, uint64_t *value);
+/* Commit: ends the open transaction; *value is its entry's number, l+1. It appends that entry, storing nothing, then takes force's step
+ * until every entry is stored (f = l), so that force after it answers 0. What the host owes before "booked": rule 3.
+ * Refuses 1, 10, 3, 7, before anything is changed, never for room; 7: the waiting row of an entry of f+1 to l is not that entry.
+ * Stores the rows of the entries f+1 to l+1 (f and l as before the call), in that order. Costs those rows twice: judged, then stored. */
+uint32_t keeper_commit(uint32_t *state, size_t state_len, uint8_t *medium, size_t medium_len,
+                       uint8_t *waiting, size_t waiting_len, uint64_t *value, uint32_t *reason, uint32_t *entry);
 
 /* Abort: takes the open transaction back; in idle it does nothing. Refuses 1, 10, 7, never for room. Stores nothing.
  * Costs the transaction's rows twice: judged, then restored. */
@@ -135,7 +143,8 @@ uint32_t keeper_abort(uint32_t *state, size_t state_len, uint64_t *current, size
                       uint32_t *first, size_t first_len, uint32_t *last, size_t last_len,
                       uint8_t *waiting, size_t waiting_len, uint32_t *reason, uint32_t *entry);
 
-/* Force: *value is the number of the entry that it stored, the lowest that is not, or 0 where all are stored.
+/* Force: *value is the number of the entry that it stored, the lowest that is not, or 0 where all are stored, as after a commit. It is
+ * for entries that no commit has stored: the open transaction's, before a write-back of their cells, and those of an abort.
  * Refuses 1, 10, 7. Stores that entry's row or nothing. Costs one row. */
 uint32_t keeper_force(uint32_t *state, size_t state_len, uint8_t *medium, size_t medium_len,
                       const uint8_t *waiting, size_t waiting_len, uint64_t *value, uint32_t *reason, uint32_t *entry);
