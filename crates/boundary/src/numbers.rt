@@ -16,7 +16,7 @@ use row::{Fault, Reason};
 use state::{Numbers, Phase};
 
 // What a slice of numbers holds.
-#[derive(Drop)]
+#[derive(Clone, Copy)]
 pub enum Held {
     State(State),
     Nothing,

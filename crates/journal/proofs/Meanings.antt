@@ -2,12 +2,9 @@
 use Prim.Native.Nat.{ℕ, suc, ◌<◌}
 use mathlib.Core.Path.{◌≡◌, refl, sym, ap, ◌∙◌, subst}
 use mathlib.Core.Bool.{Bool, true, false, ◌&&◌}
-use mathlib.Core.Logic.{⊎_elim}
 use mathlib.Core.List.{List, [], ◌∷◌}
 use mathlib.Core.Option.{Option, none, some}
 use native.Mathlib.Omega.{arith}
-use types.Run.{OneOf}
-use denote.Enum.Declared.{tag_of}
 use lib.Dec.{eqb}
 use Rattle.scope.specs.Bytes.{pick}
 use Rattle.scope.specs.Row.{Entry, update, commit_entry, abort_entry, entry_of, is_update, Fault, fault_at}
@@ -18,7 +15,6 @@ use Rattle.row.specs.declared.Row.TheVariants.{Holds, Wrong}
 use Rattle.row.specs.declared.Entry as code
 use Rattle.row.specs.declared.Reason as reasons
 use Rattle.row.specs.declared.Entry.TheVariants.{Update, Commit, Abort}
-use Rattle.row.specs.contracts.Entry.{the_type}
 use Rattle.journal.specs.Entries.{entry_in}
 
 module _ (r : Row) (o : Option Entry) (e : meaning r ≡ o) where
@@ -39,14 +35,11 @@ module _ (r : Row) (o : Option Entry) (e : meaning r ≡ o) where
     is_abort q = sym (ap (λ v. some (entry v)) q) ∙ is_some
 
     -- an entry of another variant than Update
-    pub is_end : OneOf (1 ∷ 2 ∷ []) (tag_of the_type w) → false ≡ is_update o
+    pub is_end : ((c old new : ℕ) → w ≡ Update c old new → ⊥) → false ≡ is_update o
     is_end h = go w h ∙ ap is_update is_some
       where
-        zero_is : (k : ℕ) → 0 ≡ suc k → ⊥
-        zero_is k z = omega arith
-
-        go : (v : code.Entry) → OneOf (1 ∷ 2 ∷ []) (tag_of the_type v) → false ≡ is_update (some (entry v))
-        go (Update c old new) g = absurd (⊎_elim (zero_is 0) (zero_is 1) g)
+        go : (v : code.Entry) → ((c old new : ℕ) → v ≡ Update c old new → ⊥) → false ≡ is_update (some (entry v))
+        go (Update c old new) g = absurd (g c old new refl)
         go Commit g = refl
         go Abort g = refl
 

@@ -17,42 +17,42 @@ use row::Fault;
 use state::{Numbers, Phase};
 
 // N, C, h, f, l, o and the phase. Its fields are the host's to read; a state that is not sound is refused with 1.
-#[derive(Drop)]
+#[derive(Clone, Copy)]
 pub struct State {
     pub numbers: Numbers,
     pub phase: Phase,
 }
 
 // Done, with a value (0 where the papers name none), or the refusal's number.
-#[derive(Drop)]
+#[derive(Clone, Copy)]
 pub enum Answer {
     Done(u64),
     Refused(u32),
 }
 
 // Beside 2 and 7 what is wrong with the lowest bad row, and the entry expected there.
-#[derive(Drop)]
+#[derive(Clone, Copy)]
 pub struct Outcome {
     pub answer: Answer,
     pub fault: Fault,
     pub state: State,
 }
 
-#[derive(Drop)]
+#[derive(Clone, Copy)]
 pub struct Stepped {
     pub answer: Step,
     pub state: State,
 }
 
 // A write-back stored the cell, or it was clean.
-#[derive(Drop)]
+#[derive(Clone, Copy)]
 pub enum Back {
     Stored,
     Clean,
     Refused(u32),
 }
 
-#[derive(Drop)]
+#[derive(Clone, Copy)]
 pub struct WrittenBack {
     pub answer: Back,
     pub state: State,

@@ -13,7 +13,7 @@ use walker::{Seen, after};
 use workspace::first_mark;
 
 // The word that is printed: the table's own value, a committed transaction's, or what an aborted or unfinished one gave back.
-#[derive(Drop)]
+#[derive(Clone, Copy)]
 pub enum Reason {
     Table,
     Written,
@@ -21,7 +21,7 @@ pub enum Reason {
 }
 
 // The reason, the number of the entry that decided, and that of its transaction's end; 0 where there is none.
-#[derive(Drop)]
+#[derive(Clone, Copy)]
 pub struct Decision {
     pub reason: Reason,
     pub entry: u32,
@@ -30,7 +30,7 @@ pub struct Decision {
 
 // What the entries read so far say of a cell: the open transaction's first and last update of it, 0 where it has none, and what the
 // transactions that have ended decide.
-#[derive(Drop)]
+#[derive(Clone, Copy)]
 pub struct Told {
     pub first: u32,
     pub last: u32,

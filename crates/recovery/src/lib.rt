@@ -21,7 +21,7 @@ use row::Fault;
 use state::{Numbers, Phase, both, is_recovering};
 
 // What a start leaves: the number that it refuses with, 0 where it is done, what it tells of a row beside 2, and the state.
-#[derive(Drop)]
+#[derive(Clone, Copy)]
 pub struct Started {
     pub number: u32,
     pub fault: Fault,
@@ -30,7 +30,7 @@ pub struct Started {
 }
 
 // A recovery step stored a cell or the head, or nothing.
-#[derive(Drop)]
+#[derive(Clone, Copy)]
 pub enum Step {
     Cell(u32),
     Head,
@@ -39,7 +39,7 @@ pub enum Step {
 }
 
 // What a step leaves: its answer, and the state.
-#[derive(Drop)]
+#[derive(Clone, Copy)]
 pub struct Stepped {
     pub answer: Step,
     pub numbers: Numbers,

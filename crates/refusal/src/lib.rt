@@ -19,7 +19,7 @@ use state::{Numbers, Phase, both, either, is_idle, is_recovering, is_run, refuse
 use workspace::{any_first, lowest_bad, row_fault};
 
 // A call's number, and what it tells of a row.
-#[derive(Drop)]
+#[derive(Clone, Copy)]
 pub struct Refusal {
     pub number: u32,
     pub fault: Fault,

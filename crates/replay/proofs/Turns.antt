@@ -6,8 +6,6 @@ use mathlib.Core.List.{List, [], ◌∷◌}
 use mathlib.Core.Option.{Option, none, some}
 use native.Mathlib.Omega.{arith}
 use borrow.Author.Tests.{le-leb, lt-leb, leb-true, eq-eqb, ne_eqb}
-use types.Run.{OneOf}
-use denote.Enum.Declared.{tag_of}
 use lib.Dec.{leb}
 use lib.ListN.{length, set}
 use Rattle.scope.specs.Bytes.{pick, max_no, number_at}
@@ -16,9 +14,9 @@ use Rattle.scope.specs.Recovery.{rows_of, also, any_holds, entries_from, at_most
 use Rattle.row.specs.Row.{meaning, reason_of}
 use Rattle.row.specs.declared.Row.{Row}
 use Rattle.row.specs.declared.Row.TheVariants.{Holds, Wrong}
+use Rattle.row.specs.declared.Entry.TheVariants.{Update}
 use Rattle.row.specs.declared.Entry as code
 use Rattle.row.specs.declared.Reason as reasons
-use Rattle.row.specs.contracts.Entry.{the_type}
 use Rattle.journal.specs.Entries.{entry_in}
 use Rattle.journal.proofs.Meanings.{is_end, wrong_alone}
 use Rattle.replay.specs.Replay.{last_of, undo_entry, undo_from, replay_entry, open_after, opened, onward, replay_from}
@@ -33,7 +31,7 @@ undo-other (some (update c old new)) t h = absurd (false≢true h)
 undo-other (some commit_entry) t h = refl
 undo-other (some abort_entry) t h = refl
 
-pub undo-end : (x : Row) (o : Option Entry) → meaning x ≡ o → (w : code.Entry) → x ≡ Holds w → (t : List ℕ) → OneOf (1 ∷ 2 ∷ []) (tag_of the_type w) → t ≡ undo_entry o t
+pub undo-end : (x : Row) (o : Option Entry) → meaning x ≡ o → (w : code.Entry) → x ≡ Holds w → (t : List ℕ) → ((c old new : ℕ) → w ≡ Update c old new → ⊥) → t ≡ undo_entry o t
 undo-end x o m w p t h = undo-other o t (is_end x o m w p h)
 
 -- one entry undone, replayed

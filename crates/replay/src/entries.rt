@@ -9,7 +9,7 @@ use medium::layout::index;
 use row::{Entry, Row};
 
 // An entry that was replayed: after which number the open transaction's updates come. Or its row isn't that entry.
-#[derive(Drop)]
+#[derive(Clone, Copy)]
 pub enum Replayed {
     Open(u32),
     Malformed,

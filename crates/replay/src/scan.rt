@@ -12,7 +12,7 @@ use journal::{entry_from, first_row, next_row};
 use row::{Fault, Reason, Row, fault_in};
 
 // The last entry that counts, or the lowest row with the expected number that does not read as an entry, or a hole.
-#[derive(Drop)]
+#[derive(Clone, Copy)]
 pub enum Counted {
     Upto(u32),
     Malformed(Fault),

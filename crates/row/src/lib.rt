@@ -18,7 +18,7 @@ ghost use Rattle.scope.specs.Row.{row_bytes, entry_of, read_row, wrong_entry, fa
 ghost use Rattle.row.specs.Row.{entry, reason, meaning, reason_of, fault_of, bare_end, left_over, unread_as, wrong_of};
 
 // An entry of the journal, without its number.
-#[derive(Drop)]
+#[derive(Clone, Copy)]
 pub enum Entry {
     Update { cell: u32, old: u64, new: u64 },
     Commit,
@@ -27,7 +27,7 @@ pub enum Entry {
 
 // What is wrong with a row, in the order in which it is judged. "Not an update" is asked of the open transaction's rows alone; a hole is a
 // row that does not hold its number where a later one does, and recovery's alone.
-#[derive(Drop)]
+#[derive(Clone, Copy)]
 pub enum Reason {
     TooShort,
     OtherNumber,
@@ -42,14 +42,14 @@ pub enum Reason {
 }
 
 // What a row reads as: the entry, or the first thing wrong.
-#[derive(Drop)]
+#[derive(Clone, Copy)]
 pub enum Row {
     Holds(Entry),
     Wrong(Reason),
 }
 
 // What is told of rows: nothing, or what is wrong with one and the number of the entry expected there.
-#[derive(Drop)]
+#[derive(Clone, Copy)]
 pub enum Fault {
     None,
     At { reason: Reason, entry: u32 },

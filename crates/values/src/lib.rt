@@ -17,7 +17,7 @@ use replay::scan::{any_holds, at_most};
 use walker::{Seen, after};
 
 // How a walk ends: after its last entry, or at a row that does not read or is a hole.
-#[derive(Drop)]
+#[derive(Clone, Copy)]
 enum Ended {
     Upto(u32),
     Malformed,

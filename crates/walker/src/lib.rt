@@ -12,14 +12,14 @@ use medium::head::head_ok;
 use medium::layout::row_at;
 use row::{Entry, Row};
 
-#[derive(Drop)]
+#[derive(Clone, Copy)]
 pub struct Walker<'a> {
     pub medium: &'a [u8],
     pub at: u32,
 }
 
 // What a walker meets next: the entry of the next number, a row with that number that does not read as an entry, or the journal's end.
-#[derive(Drop)]
+#[derive(Clone, Copy)]
 pub enum Seen {
     Holds { number: u32, what: Entry },
     Malformed,

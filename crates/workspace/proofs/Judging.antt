@@ -6,8 +6,6 @@ use mathlib.Core.Bool.{Bool, true, false, false≢true}
 use mathlib.Core.List.{List, [], ◌∷◌}
 use mathlib.Core.Option.{Option, none, some}
 use native.Mathlib.Omega.{arith}
-use types.Run.{OneOf}
-use denote.Enum.Declared.{tag_of}
 use lib.ListN.{take, drop}
 use Rattle.scope.specs.Keeper.{row_at}
 use Rattle.scope.specs.Row.{is_update, is_entry, Reason, not_update, Fault, faultless, fault, fault_at, lowest_fault, fault_entry}
@@ -19,7 +17,6 @@ use Rattle.row.specs.declared.Row.TheVariants.{Holds, Wrong}
 use Rattle.row.specs.declared.Reason as reasons
 use Rattle.row.specs.declared.Entry as code
 use Rattle.row.specs.declared.Entry.TheVariants.{Update}
-use Rattle.row.specs.contracts.Entry.{the_type}
 use Rattle.journal.specs.Entries.{entry_in, wrong_in}
 use Rattle.journal.proofs.Meanings.{is_nothing, is_some, is-update, is_end}
 use Rattle.workspace.specs.Values.{wrong_update_in, is_due, wrong_due}
@@ -53,7 +50,7 @@ module _ (waiting : List ℕ) (slots cells m : ℕ) (updates : Bool) where
       unfolding is_due
       entry_due u = ap is_entry (is_some r _ e w p) ∙ ap (λ b. is_due b (entry_in waiting 0 slots cells m)) (sym u)
 
-      pub end_not_due : updates ≡ true → OneOf (1 ∷ 2 ∷ []) (tag_of the_type w) → false ≡ is_due updates (entry_in waiting 0 slots cells m)
+      pub end_not_due : updates ≡ true → ((c old new : ℕ) → w ≡ Update c old new → ⊥) → false ≡ is_due updates (entry_in waiting 0 slots cells m)
       unfolding is_due
       end_not_due u h = is_end r _ e w p h ∙ ap (λ b. is_due b (entry_in waiting 0 slots cells m)) (sym u)
 
@@ -70,7 +67,7 @@ module _ (waiting : List ℕ) (slots cells m : ℕ) (updates : Bool) where
           go true s = s ∙ sym (wrong-update cells m _ (reason x) (sym q ∙ s))
           go false s = q
 
-      pub end-fault : (w : code.Entry) → r ≡ Holds w → updates ≡ true → OneOf (1 ∷ 2 ∷ []) (tag_of the_type w)
+      pub end-fault : (w : code.Entry) → r ≡ Holds w → updates ≡ true → ((c old new : ℕ) → w ≡ Update c old new → ⊥)
           → fault not_update m ≡ fault_at m (wrong_due updates waiting slots cells m) faultless
       unfolding wrong_due wrong_update_in wrong_in entry_in
       end-fault w p u h =

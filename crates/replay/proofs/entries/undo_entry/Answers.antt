@@ -1,0 +1,8 @@
+-- One entry undone is undo_entry of what its row reads as: by the kind of entry. An update that reads has its cell below N, so the store is inside.
+use Rattle.journal.proofs.Meanings.{is-update, entry-below}
+use native.Mathlib.Omega.{arith}
+use Rattle.replay.proofs.entries.undo_entry.Goals as goal
+
+pub bounds-current-at : goal.bounds-current-at
+bounds-current-at c =
+    omega (arith, entry-below _ _ _ _ _ _ _ _ (is-update _ _ c.entry_at.ensures.entry _ c.in-Holds.is _ _ _ c.in-Update.is))

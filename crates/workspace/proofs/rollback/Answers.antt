@@ -1,0 +1,13 @@
+-- `workspace::rollback` meets its contract. The rows that remain, rolled back from here, give what all give from the start.
+use Prim.Native.Nat.{◌-◌}
+use borrow.Author.Rules.{rules}
+use native.Mathlib.Omega.{arith}
+use Rattle.workspace.proofs.Restoring.{roll_again, roll_end}
+use Rattle.workspace.proofs.rollback.Goals as goal
+
+pub loop-m-preserved : goal.loop-m-preserved
+loop-m-preserved c =
+    (search rules, omega arith, roll_again _ _ _ _ _ _ _ c.loop-m.invariant.2 (omega arith) c.restore.ensures)
+
+pub returns : goal.returns
+returns c = roll_end _ _ _ _ _ _ c.loop-m.invariant.2 (omega arith)
