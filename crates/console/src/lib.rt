@@ -34,7 +34,7 @@ pub const STEP: u32 = 8;
 pub const START: u32 = 9;
 
 // A call and its arguments, of which it takes what it needs: a cell and a value, or the entry to cut to.
-#[derive(Drop)]
+#[derive(Clone, Copy)]
 pub struct Asked {
     pub call: u32,
     pub cell: u32,
@@ -56,7 +56,7 @@ pub const HEAD: u32 = 4;
 // What a call did: the state that it handed back, the refusal's number or 0 and what it tells of rows, what it answered, and where on the
 // medium its store stands, `size` bytes from `at` on; with size 0 it made none, or it is a commit, which stores the rows of entries f+1, f
 // as before it, to its number.
-#[derive(Drop)]
+#[derive(Clone, Copy)]
 pub struct Did {
     pub state: State,
     pub refused: u32,

@@ -10,21 +10,21 @@ use medium::head::{table_view, table_view_number};
 use medium::layout::index;
 
 // A control unit: the span of cells that it owns.
-#[derive(Drop)]
+#[derive(Clone, Copy)]
 pub struct ControlUnit {
     pub lowest: u32,
     pub count: u32,
 }
 
 // The cell to order, with its value; or the refusal's number.
-#[derive(Drop)]
+#[derive(Clone, Copy)]
 pub enum Order {
     Cell(u32, u64),
     Refused(u32),
 }
 
 // What a part in hand is: the one to order, its equal in release, older, or not listed; or the refusal's number.
-#[derive(Drop)]
+#[derive(Clone, Copy)]
 pub enum Hand {
     ThatOne,
     Equal,
@@ -34,14 +34,14 @@ pub enum Hand {
 }
 
 // Which cells count: all that are not empty, or those that list a part.
-#[derive(Drop)]
+#[derive(Clone, Copy)]
 enum Sought {
     Any,
     Part(u64),
 }
 
 // The best cell so far, with its value.
-#[derive(Drop)]
+#[derive(Clone, Copy)]
 enum Best {
     Cell(u32, u64),
     Nothing,

@@ -13,7 +13,7 @@ use recovered::recover;
 use text::{put_bytes, put_cell, put_line};
 
 // What is asked after the file name: a unit's lowest cell and count and, where a line gives it, the part in hand; or a line is no number.
-#[derive(Drop)]
+#[derive(Clone, Copy)]
 pub enum Question {
     Unit(u64, u64, Decimal),
     Nothing,

@@ -6,14 +6,14 @@ ghost use Rattle.std.specs.Prelude.{◌≡◌, ◌-◌, ◌≤◌, length, take,
 ghost use Rattle.lines.specs.Lines.{newline, line_end, next_line, line_at, nth_line, line_bytes, with_digit, decimal_of};
 
 // A line: where it begins and ends, and where the next one would begin.
-#[derive(Drop)]
+#[derive(Clone, Copy)]
 pub enum Line {
     At { from: usize, to: usize, next: usize },
     Nothing,
 }
 
 // What a line is as a decimal number.
-#[derive(Drop)]
+#[derive(Clone, Copy)]
 pub enum Decimal {
     Is(u64),
     Nothing,

@@ -6,8 +6,6 @@ use mathlib.Core.Bool.{Bool, false}
 use mathlib.Core.List.{List, [], ◌∷◌}
 use native.Mathlib.Omega.{arith}
 use borrow.Author.Tests.{eq-eqb, ne_eqb}
-use types.Run.{OneOf}
-use denote.Enum.Declared.{tag_of}
 use Rattle.scope.specs.Bytes.{number_at}
 use Rattle.scope.specs.Row.{Entry}
 use Rattle.scope.specs.Keeper.{first_mark, is_head_ok}
@@ -18,7 +16,6 @@ use Rattle.row.specs.declared.Entry.TheVariants.{Update, Commit, Abort}
 use Rattle.walker.specs.declared.Seen.{Seen}
 use Rattle.walker.specs.declared.Seen.TheVariants.{Holds, Malformed, End}
 use Rattle.walker.specs.Walk.{holds, met, next_on, followed, walked_from, walk}
-use Rattle.walker.specs.contracts.Seen.{the_type}
 use Rattle.walker.proofs.Walking.{met-counts, walk_none}
 use Rattle.reasons.specs.declared.Reason.TheVariants.{Written, Restored}
 use Rattle.reasons.specs.declared.Decision.{Decision}
@@ -76,15 +73,12 @@ module _ (m : List ℕ) (h c : ℕ) (head : h ≡ number_at 4 8 m) where
   tale_starts t e = let z : still_from h ≡ at_most (number_at 4 4 m) h = omega arith in rw (← head, e, z)
 
   module _ (n : ℕ) (t all : Told) (rest : all ≡ tale c n (walked_from m (still_from n) n) t) (r : Seen) (e : met r ≡ next_on m n) where
-    pub tale_ends : OneOf (1 ∷ 2 ∷ []) (tag_of the_type r) → t ≡ all
+    pub tale_ends : ((k : ℕ) (w : code.Entry) → r ≡ Holds k w → ⊥) → t ≡ all
     unfolding walked_from tale
     tale_ends o = sym (rest ∙ ap (λ es. tale c n es t) (none_left (still_from n)))
       where
-        zero_is : (k : ℕ) → 0 ≡ suc k → ⊥
-        zero_is k z = omega arith
-
-        not_held : (s : Seen) → OneOf (1 ∷ 2 ∷ []) (tag_of the_type s) → (es : List Entry) → followed (met s) es ≡ []
-        not_held (Holds k w) g es = absurd (⊎_elim (zero_is 0) (zero_is 1) g)
+        not_held : (s : Seen) → ((k : ℕ) (w : code.Entry) → s ≡ Holds k w → ⊥) → (es : List Entry) → followed (met s) es ≡ []
+        not_held (Holds k w) g es = absurd (g k w refl)
         not_held Malformed g es = refl
         not_held End g es = refl
 

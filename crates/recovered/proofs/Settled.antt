@@ -2,12 +2,9 @@
 -- anything after a start that the head refuses. So a start and its steps in workspaces of zeros are those of the definition.
 use Prim.Native.Nat.{ℕ, zero, suc, ◌+◌, ◌-◌, ◌*◌, ◌≤◌, ◌<◌}
 use mathlib.Core.Path.{◌≡◌, refl, sym, ap, ◌∙◌}
-use mathlib.Core.Logic.{⊎_elim}
 use mathlib.Core.Bool.{Bool, true, false}
 use mathlib.Core.List.{List, [], ◌∷◌}
 use native.Mathlib.Omega.{arith}
-use types.Run.{OneOf}
-use denote.Enum.Declared.{tag_of}
 use lib.ListN.{length, replicate, take, length-replicate}
 use Rattle.scope.specs.Bytes.{pick, number_at}
 use Rattle.scope.specs.Row.{faultless}
@@ -24,7 +21,6 @@ use Rattle.recovery.specs.Answers.{numbered, stepped}
 use Rattle.recovery.specs.declared.Started.{Started}
 use Rattle.recovery.specs.declared.Step.{Step}
 use Rattle.recovery.specs.declared.Step.TheVariants as step
-use Rattle.recovery.specs.contracts.Step.{the_type}
 use Rattle.recovery.proofs.Recovering.{head_fits}
 use Rattle.recovered.specs.Recovered.{is_cell, steps, started, start_told, recovered, head_number, Zeroed, Recovers}
 
@@ -49,11 +45,8 @@ steps-end k zero e = refl
 steps-end k (suc left) e = absurd (omega arith)
 
 -- a step of another variant than Cell
-pub no_cell : (x : Step) → OneOf (1 ∷ 2 ∷ 3 ∷ []) (tag_of the_type x) → is_cell (stepped x) ≡ false
-no_cell (step.Cell c) h = absurd (⊎_elim (zero_is 0) (⊎_elim (zero_is 1) (zero_is 2)) h)
-  where
-    zero_is : (k : ℕ) → 0 ≡ suc k → ⊥
-    zero_is k z = omega arith
+pub no_cell : (x : Step) → ((c : ℕ) → x ≡ step.Cell c → ⊥) → is_cell (stepped x) ≡ false
+no_cell (step.Cell c) h = absurd (h c refl)
 no_cell step.Head h = refl
 no_cell step.Clean h = refl
 no_cell (step.Refused n) h = refl

@@ -16,7 +16,7 @@ returns-in_default c =
 
 pub returns-in_default-what : goal.returns-in_default-what
 returns-in_default-what c =
-    row-says _ _ _ _ _ 0 c.plain-in_default-what.ensures (moved-end _ _ _ (omega arith) (ap is_entry (is_some _ _ c.entry_at-found.ensures.entry _ c.in-Holds.is)) (is_end _ _ c.entry_at-found.ensures.entry _ c.in-Holds.is c.in-Update.keys2)) (λ z. omega arith)
+    row-says _ _ _ _ _ 0 c.plain-in_default-what.ensures (moved-end _ _ _ (omega arith) (ap is_entry (is_some _ _ c.entry_at-found.ensures.entry _ c.in-Holds.is)) (is_end _ _ c.entry_at-found.ensures.entry _ c.in-Holds.is c.in_default-what.not-Update)) (λ z. omega arith)
 
 pub returns : goal.returns
 returns c =
