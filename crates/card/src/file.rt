@@ -126,13 +126,7 @@ fn named(rt: HostRuntime, line: &[u8], name: Span, new: bool) -> Option<File> {
 }
 
 // Opens the file that the line names and reads it; nothing is stored. The session before it is kept where that fails.
-pub fn open(
-    rt: HostRuntime,
-    session: Session,
-    line: &[u8],
-    name: Span,
-    medium: &mut [u8],
-) -> Told {
+pub fn open(rt: HostRuntime, session: Session, line: &[u8], name: Span, medium: &mut [u8]) -> Told {
     let Some(file) = named(rt, line, name, false) else {
         say::say(
             b"# no such file, or it can't be read and written; new FILE makes one\nerror=file\n",
@@ -222,13 +216,7 @@ fn cut_to(file: &Option<File>, size: usize) -> bool {
 }
 
 // Format on a medium of the right length, and the file cut or stretched to it.
-fn format_on(
-    rt: HostRuntime,
-    session: Session,
-    cells: u32,
-    slots: u32,
-    medium: &mut [u8],
-) -> Told {
+fn format_on(rt: HostRuntime, session: Session, cells: u32, slots: u32, medium: &mut [u8]) -> Told {
     let size = medium.len();
     let no = medium::head::format(medium, cells, slots);
     if no != 0 {

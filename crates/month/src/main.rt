@@ -136,7 +136,15 @@ fn main(rt: HostRuntime) {
         let line = read_name(&mut name);
         let length = name_length(&name, line);
         turns = turns_left(turns - 1, line.ended);
-        month = add_named(rt, &name, length, &mut image, month, &mut releases, &mut counts);
+        month = add_named(
+            rt,
+            &name,
+            length,
+            &mut image,
+            month,
+            &mut releases,
+            &mut counts,
+        );
     }
     print(month, &releases, &counts);
 }

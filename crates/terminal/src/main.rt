@@ -364,7 +364,9 @@ fn serve(
     while 0 < turns {
         turns -= 1;
         let order = orders::next(rt, line);
-        let told = obey(rt, session, order, line, medium, current, first, last, waiting);
+        let told = obey(
+            rt, session, order, line, medium, current, first, last, waiting,
+        );
         session = told.session;
         if told.on {} else {
             return;
