@@ -2,13 +2,18 @@
 use keeper::State;
 use orders::{say, show};
 use state::{Numbers, Phase};
+use std::fs::{File, OpenOptions};
+use std::io::{Seek, SeekFrom};
+use std::os::fd::AsRawFd;
+use std::os::unix::fs::FileExt;
+use std::rt::HostRuntime;
 use words::Span;
 
-// The keeper's state, the file's descriptor (below 0: none) and the medium's length.
+// The keeper's state, the file where one is open, and the medium's length.
 #[derive(Drop)]
 pub struct Session {
     pub state: State,
-    pub fd: i32,
+    pub file: Option<File>,
     pub size: usize,
 }
 
@@ -35,28 +40,33 @@ fn zeros() -> State {
 }
 
 // A session at a file, before recovery.
-pub fn session_at(fd: i32, size: usize) -> Session {
+pub fn session_at(file: Option<File>, size: usize) -> Session {
     Session {
         state: zeros(),
-        fd,
+        file,
         size,
     }
 }
 
-// Bytes stored at their place in the file, and synced.
-fn store(fd: i32, part: &[u8], at: usize) -> bool {
+// Bytes stored at their place in the file by one write, and synced.
+fn store(file: &Option<File>, part: &[u8], at: usize) -> bool {
     if 40992 < at {
         return false;
     }
-    let put = libc::pwrite(fd, part, at as i64);
-    if io::count(put, part) != part.len() {
+    let Some(file) = file else {
+        return false;
+    };
+    let Ok(put) = file.write_at(part, at as u64) else {
+        return false;
+    };
+    if put != part.len() {
         return false;
     }
-    libc::fsync(fd) == 0
+    file.sync_all().is_ok()
 }
 
 // What a call stored, brought to the file: `size` bytes of the medium from `at` on.
-pub fn bring(fd: i32, medium: &[u8], at: usize, size: usize) -> bool {
+pub fn bring(file: &Option<File>, medium: &[u8], at: usize, size: usize) -> bool {
     if size == 0 {
         return true;
     }
@@ -70,7 +80,7 @@ pub fn bring(fd: i32, medium: &[u8], at: usize, size: usize) -> bool {
     if medium.len() < end {
         return false;
     }
-    store(fd, &medium[at..end], at)
+    store(file, &medium[at..end], at)
 }
 
 // The file did not take a store: the terminal stops, before it answers.
@@ -81,40 +91,52 @@ pub fn failed(session: Session) -> Told {
     Told { session, on: false }
 }
 
-// The descriptor of the file that the line names, or -1; it is there already, or it is new.
-fn named(line: &[u8], name: Span, new: bool) -> i32 {
+// Whether a file could be made, empty, where none of this name is.
+fn made_new(rt: HostRuntime, path: &str) -> bool {
+    OpenOptions::new()
+        .write(true)
+        .create_new(true)
+        .open(&rt, path)
+        .is_ok()
+}
+
+// The file that the line names, to read and write, or none; it is there already, or it is new. A name that is no text is that of no file.
+fn named(rt: HostRuntime, line: &[u8], name: Span, new: bool) -> Option<File> {
     let from = name.from;
     let to = name.to;
     if to < from {
-        return -1;
+        return None;
     }
     if line.len() < to {
-        return -1;
+        return None;
     }
-    let path = &line[from..to];
+    let Ok(path) = std::str::from_utf8(&line[from..to]) else {
+        return None;
+    };
     if new {
-        let made = os::create(path);
-        if made < 0 {
-            return -1;
+        if made_new(rt, path) {} else {
+            return None;
         }
-        libc::close(made);
     }
-    os::open_update(path)
+    OpenOptions::new()
+        .read(true)
+        .write(true)
+        .open(&rt, path)
+        .ok()
 }
 
 // Opens the file that the line names and reads it; nothing is stored. The session before it is kept where that fails.
-pub fn open(session: Session, line: &[u8], name: Span, medium: &mut [u8]) -> Told {
-    let fd = named(line, name, false);
-    if fd < 0 {
+pub fn open(rt: HostRuntime, session: Session, line: &[u8], name: Span, medium: &mut [u8]) -> Told {
+    let Some(file) = named(rt, line, name, false) else {
         say::say(
             b"# no such file, or it can't be read and written; new FILE makes one\nerror=file\n",
         );
         return Told { session, on: false };
-    }
-    libc::close(session.fd);
-    let size = io::read_full(fd, medium);
+    };
+    drop(session);
+    let size = io::read_full(file.as_raw_fd(), medium);
     say::pair(b"bytes=", size as u64);
-    let opened = session_at(fd, size);
+    let opened = session_at(Some(file), size);
     Told {
         session: opened,
         on: true,
@@ -122,29 +144,40 @@ pub fn open(session: Session, line: &[u8], name: Span, medium: &mut [u8]) -> Tol
 }
 
 // Makes the file that the line names, empty. A name that is taken is refused, and the session before it is kept.
-pub fn make(session: Session, line: &[u8], name: Span) -> Told {
-    let fd = named(line, name, true);
-    if fd < 0 {
+pub fn make(rt: HostRuntime, session: Session, line: &[u8], name: Span) -> Told {
+    let Some(file) = named(rt, line, name, true) else {
         say::say(
             b"# the name is taken, or no file can be made there; open FILE opens one\nerror=file\n",
         );
         return Told { session, on: true };
-    }
-    libc::close(session.fd);
+    };
+    drop(session);
     say::say(b"# the file was made, empty: format CELLS ROWS is next\nanswer=0\n");
-    let made = session_at(fd, 0);
+    let made = session_at(Some(file), 0);
     Told {
         session: made,
         on: true,
     }
 }
 
+// Whether the file's end is at this place.
+fn ends_at(file: &Option<File>, size: usize) -> bool {
+    let Some(file) = file else {
+        return false;
+    };
+    let mut file = file;
+    let Ok(end) = file.seek(SeekFrom::End(0)) else {
+        return false;
+    };
+    end == size as u64
+}
+
 // Whether the file still has the length that was read.
-fn same_length(fd: i32, size: usize) -> bool {
+fn same_length(file: &Option<File>, size: usize) -> bool {
     if 40992 < size {
         return false;
     }
-    if libc::lseek(fd, 0, libc::SEEK_END) == size as i64 {
+    if ends_at(file, size) {
         return true;
     }
     say::say(
@@ -154,7 +187,7 @@ fn same_length(fd: i32, size: usize) -> bool {
 }
 
 // Whether a format may touch the file: an empty one; a medium, where the order says so in words. Anything else stays as it is.
-fn free_to_format(session: Session, erase: bool, medium: &[u8]) -> bool {
+fn free_to_format(session: &Session, erase: bool, medium: &[u8]) -> bool {
     let cause = show::cause(medium, session.size);
     if cause == say::NO_MEDIUM {
         say::say(
@@ -163,10 +196,10 @@ fn free_to_format(session: Session, erase: bool, medium: &[u8]) -> bool {
         return false;
     }
     if cause == say::EMPTY {
-        return same_length(session.fd, session.size);
+        return same_length(&session.file, session.size);
     }
     if erase {
-        return same_length(session.fd, session.size);
+        return same_length(&session.file, session.size);
     }
     say::say(
         b"# the file is a medium, so it stays as it is: format CELLS ROWS erase erases its table and its journal\nerror=erase\n",
@@ -174,9 +207,16 @@ fn free_to_format(session: Session, erase: bool, medium: &[u8]) -> bool {
     false
 }
 
+// The file cut or stretched to a length.
+fn cut_to(file: &Option<File>, size: usize) -> bool {
+    let Some(file) = file else {
+        return false;
+    };
+    file.set_len(size as u64).is_ok()
+}
+
 // Format on a medium of the right length, and the file cut or stretched to it.
-fn format_on(session: Session, cells: u32, slots: u32, medium: &mut [u8]) -> Told {
-    let fd = session.fd;
+fn format_on(rt: HostRuntime, session: Session, cells: u32, slots: u32, medium: &mut [u8]) -> Told {
     let size = medium.len();
     let no = medium::head::format(medium, cells, slots);
     if no != 0 {
@@ -186,15 +226,15 @@ fn format_on(session: Session, cells: u32, slots: u32, medium: &mut [u8]) -> Tol
     if 40992 < size {
         return failed(session);
     }
-    if libc::ftruncate(fd, size as i64) != 0 {
+    if cut_to(&session.file, size) {} else {
         return failed(session);
     }
-    if bring(fd, medium, 0, size) {} else {
+    if bring(&session.file, medium, 0, size) {} else {
         return failed(session);
     }
-    say::hint(b"# an empty table: start, then recover, then begin\n");
+    say::hint(rt, b"# an empty table: start, then recover, then begin\n");
     say::say(b"answer=0\n");
-    let formatted = session_at(fd, size);
+    let formatted = session_at(session.file, size);
     Told {
         session: formatted,
         on: true,
@@ -202,16 +242,23 @@ fn format_on(session: Session, cells: u32, slots: u32, medium: &mut [u8]) -> Tol
 }
 
 // Format: the only order that stores more than one head, row or cell.
-pub fn format(session: Session, cells: u32, slots: u32, erase: bool, medium: &mut [u8]) -> Told {
+pub fn format(
+    rt: HostRuntime,
+    session: Session,
+    cells: u32,
+    slots: u32,
+    erase: bool,
+    medium: &mut [u8],
+) -> Told {
     let ranged = medium::layout::in_range(cells, slots);
     if ranged {} else {
         say::sizes();
         return Told { session, on: true };
     }
-    let free = free_to_format(session, erase, medium);
+    let free = free_to_format(&session, erase, medium);
     if free {} else {
         return Told { session, on: true };
     }
     let m = words::least(medium::layout::medium_length(cells, slots), medium.len());
-    format_on(session, cells, slots, &mut medium[0..m])
+    format_on(rt, session, cells, slots, &mut medium[0..m])
 }

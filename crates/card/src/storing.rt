@@ -5,6 +5,7 @@ use crate::file;
 use console::{Asked, Did};
 use keeper::State;
 use row::Fault;
+use std::fs::File;
 
 // The state after the rows stored so far and the last of their numbers; those that are not in the file yet, in one sector, the bytes from
 // `from` to `to`; a refusal's number and its fault; whether an entry may be left, and whether the file took what was brought.
@@ -21,19 +22,19 @@ pub struct Rows {
 }
 
 // The row of the entry after n, brought and synced.
-fn bring_row(fd: i32, medium: &[u8], slots: u32, n: u32) -> bool {
+fn bring_row(file: &Option<File>, medium: &[u8], slots: u32, n: u32) -> bool {
     if slots == 0 {
         return false;
     }
     let at = journal::first_row(slots, n);
-    file::bring(fd, medium, at, 32)
+    file::bring(file, medium, at, 32)
 }
 
 // A commit's rows, those of the entries after `from` up to `to`, in that order, each synced before the next.
-pub fn bring_rows(fd: i32, medium: &[u8], slots: u32, from: u32, to: u32) -> bool {
+pub fn bring_rows(file: &Option<File>, medium: &[u8], slots: u32, from: u32, to: u32) -> bool {
     let mut n = from;
     while n < to {
-        if bring_row(fd, medium, slots, n) {} else {
+        if bring_row(file, medium, slots, n) {} else {
             return false;
         }
         n += 1;
@@ -51,13 +52,13 @@ fn force() -> Asked {
 }
 
 // What is held is brought: nothing where nothing is.
-fn brought(fd: i32, medium: &[u8], rows: Rows) -> bool {
+fn brought(file: &Option<File>, medium: &[u8], rows: Rows) -> bool {
     let from = rows.from;
     let to = rows.to;
     if to <= from {
         return true;
     }
-    file::bring(fd, medium, from, to - from)
+    file::bring(file, medium, from, to - from)
 }
 
 // The rows with one more held: beside those of its sector.
@@ -78,7 +79,7 @@ fn beside(rows: Rows, did: Did, at: usize, end: usize) -> Rows {
 }
 
 // A row that was stored is held with those of its sector, once those of another are in the file.
-fn hold(fd: i32, medium: &[u8], rows: Rows, did: Did) -> Rows {
+fn hold(file: &Option<File>, medium: &[u8], rows: Rows, did: Did) -> Rows {
     let state = did.state;
     let at = did.at;
     let end = words::least(at, 40992) + words::least(did.size, 40992);
@@ -88,7 +89,7 @@ fn hold(fd: i32, medium: &[u8], rows: Rows, did: Did) -> Rows {
             return beside(rows, did, at, end);
         }
     }
-    let taken = brought(fd, medium, rows);
+    let taken = brought(file, medium, rows);
     Rows {
         state,
         number: did.value,
@@ -102,7 +103,7 @@ fn hold(fd: i32, medium: &[u8], rows: Rows, did: Did) -> Rows {
 }
 
 // No entry is left, or force was refused: what is held is brought.
-fn ended(fd: i32, medium: &[u8], rows: Rows, did: Did) -> Rows {
+fn ended(file: &Option<File>, medium: &[u8], rows: Rows, did: Did) -> Rows {
     let state = did.state;
     let fault = did.fault;
     Rows {
@@ -113,12 +114,12 @@ fn ended(fd: i32, medium: &[u8], rows: Rows, did: Did) -> Rows {
         refused: did.refused,
         fault,
         more: false,
-        taken: brought(fd, medium, rows),
+        taken: brought(file, medium, rows),
     }
 }
 
 fn one_more(
-    fd: i32,
+    file: &Option<File>,
     rows: Rows,
     medium: &mut [u8],
     current: &mut [u64],
@@ -129,14 +130,14 @@ fn one_more(
     let state = rows.state;
     let did = console::make(state, force(), medium, current, first, last, waiting);
     if did.size == 0 {
-        return ended(fd, medium, rows, did);
+        return ended(file, medium, rows, did);
     }
-    hold(fd, medium, rows, did)
+    hold(file, medium, rows, did)
 }
 
 // Every entry that waits, at most as many as a journal has rows.
 pub fn store_rows(
-    fd: i32,
+    file: &Option<File>,
     state: State,
     medium: &mut [u8],
     current: &mut [u64],
@@ -157,7 +158,7 @@ pub fn store_rows(
     let mut turns: u32 = 1025;
     while 0 < turns {
         turns -= 1;
-        rows = one_more(fd, rows, medium, current, first, last, waiting);
+        rows = one_more(file, rows, medium, current, first, last, waiting);
         if rows.more {} else {
             return rows;
         }

@@ -7,6 +7,7 @@ ghost use Rattle.io.specs.Counts.{IsPrefixLen};
 ghost use Rattle.months.specs.Month.{Sized};
 
 use months::{Month, add_medium};
+use std::rt::HostRuntime;
 
 // A line that was read: its length, one more than its buffer's where it does not fit, and whether a newline ended it.
 #[derive(Drop)]
@@ -73,17 +74,18 @@ fn name_length(name: &[u8], line: Name) -> usize {
 }
 
 // The bytes of the file of this name; none of a name that is too long for any file.
-fn read_medium(name: &[u8], length: usize, image: &mut [u8]) -> usize
+fn read_medium(rt: HostRuntime, name: &[u8], length: usize, image: &mut [u8]) -> usize
     ensures { IsPrefixLen result image.new }
 {
     if name.len() < length {
         return 0;
     }
-    files::read_file(&name[0..length], image)
+    files::read_file(rt, &name[0..length], image)
 }
 
 // One more file; an empty line names none.
 fn add_named(
+    rt: HostRuntime,
     name: &[u8],
     length: usize,
     image: &mut [u8],
@@ -97,7 +99,7 @@ fn add_named(
     if length == 0 {
         return month;
     }
-    let size = read_medium(name, length, image);
+    let size = read_medium(rt, name, length, image);
     add_medium(&image[0..size], month, releases, counts)
 }
 
@@ -117,7 +119,7 @@ fn print(month: Month, releases: &[u32], counts: &[u64])
 }
 
 // The image is one byte longer than the largest medium, so that an overlong one is seen and refused.
-fn main() {
+fn main(rt: HostRuntime) {
     let mut releases = [0u32; 64];
     let mut counts = [0u64; 64];
     let mut image = [0u8; 40993];
@@ -134,7 +136,15 @@ fn main() {
         let line = read_name(&mut name);
         let length = name_length(&name, line);
         turns = turns_left(turns - 1, line.ended);
-        month = add_named(&name, length, &mut image, month, &mut releases, &mut counts);
+        month = add_named(
+            rt,
+            &name,
+            length,
+            &mut image,
+            month,
+            &mut releases,
+            &mut counts,
+        );
     }
     print(month, &releases, &counts);
 }

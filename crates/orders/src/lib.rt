@@ -9,6 +9,7 @@ ghost use Rattle.words.specs.Words.{word_number, word_release};
 ghost use Rattle.orders.specs.Orders.{told, number_order, write_order, sized_order, call_kind, kind_of, arity_of, given_of, sizes_order, words_order, worded_order, order_of};
 
 use console::Asked;
+use std::rt::HostRuntime;
 use words::{Parsed, Span};
 
 // The keeper's calls have the numbers that `console` gives them; these follow.
@@ -41,7 +42,7 @@ const ERASE: u64 = 435710686053;
 
 // A line's order: its kind; whether its words are not what that kind wants; two numbers; whether a table may be erased; a cell's value;
 // a file's name.
-#[derive(Drop)]
+#[derive(Clone, Copy)]
 pub struct Order {
     pub kind: u32,
     pub wrong: bool,
@@ -137,7 +138,7 @@ fn given(a: Span, b: Span, c: Span, d: Span) -> u32
 }
 
 // A number as a part, cell, entry or size; `bad` where the word is none.
-#[derive(Drop)]
+#[derive(Clone, Copy)]
 pub struct Read {
     n: u32,
     bad: bool,
@@ -324,8 +325,8 @@ pub fn parse(s: &[u8]) -> Order
 }
 
 // The next line's order.
-pub fn next(line: &mut [u8]) -> Order {
-    say::prompt();
+pub fn next(rt: HostRuntime, line: &mut [u8]) -> Order {
+    say::prompt(rt);
     let n = words::read_line(line);
     let none = Span { from: 0, to: 0 };
     if n == words::END {

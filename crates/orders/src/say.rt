@@ -1,7 +1,11 @@
 // What the terminal writes. The last line of each reply begins with answer=, refused= or error=; a line for people begins with #. A
 // person at a keyboard gets a prompt and hints besides; a script gets neither.
-use libc::{STDIN_FILENO, STDOUT_FILENO};
 use row::Fault;
+use std::io::IsTerminal;
+use std::rt::HostRuntime;
+
+// Standard output's descriptor.
+pub const STDOUT_FILENO: i32 = 1;
 
 // Why a call was refused with 1.
 pub const EMPTY: u32 = 0;
@@ -21,20 +25,20 @@ pub fn pair(name: &[u8], n: u64) {
 }
 
 // Whether a person is at the keyboard.
-fn at_keyboard() -> bool {
-    libc::isatty(STDIN_FILENO) == 1
+fn at_keyboard(rt: HostRuntime) -> bool {
+    rt.stdin().is_terminal()
 }
 
-pub fn prompt() {
-    let person = at_keyboard();
+pub fn prompt(rt: HostRuntime) {
+    let person = at_keyboard(rt);
     if person {
         say(b"keeper> ");
     }
 }
 
 // A line that only a person at the keyboard gets.
-pub fn hint(text: &[u8]) {
-    let person = at_keyboard();
+pub fn hint(rt: HostRuntime, text: &[u8]) {
+    let person = at_keyboard(rt);
     if person {
         say(text);
     }

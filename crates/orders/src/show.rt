@@ -1,7 +1,7 @@
 // Showing what stands on the medium.
 use crate::say;
+use crate::say::STDOUT_FILENO;
 use keeper::State;
-use libc::STDOUT_FILENO;
 use row::Fault;
 
 // A number of the head, for sizes; 0 of a medium without one.

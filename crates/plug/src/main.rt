@@ -8,7 +8,8 @@ pub mod history;
 
 ghost use Rattle.std.specs.Prelude.{◌<◌, ◌≤◌};
 
-use libc::STDOUT_FILENO;
+// Standard output's descriptor.
+const STDOUT_FILENO: i32 = 1;
 
 const TRIED: u32 = 6000;
 
@@ -82,9 +83,9 @@ fn line(name: &[u8], n: u64) {
         digit(n),
     ];
     let from = 10 - width(n);
-    libc::write(STDOUT_FILENO, name);
-    libc::write(STDOUT_FILENO, &d[from..10]);
-    libc::write(STDOUT_FILENO, b"\n");
+    io::write_all(STDOUT_FILENO, name);
+    io::write_all(STDOUT_FILENO, &d[from..10]);
+    io::write_all(STDOUT_FILENO, b"\n");
 }
 
 // What was tried.

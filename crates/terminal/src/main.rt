@@ -7,10 +7,13 @@ use card::file::{Session, Told};
 use card::storing::Rows;
 use card::{file, storing};
 use console::{Asked, Did};
+use keeper::State;
 use orders::{Order, say, show};
+use std::fs::File;
+use std::rt::HostRuntime;
 
 // What a call answered.
-fn answer(asked: Asked, did: Did) {
+fn answer(rt: HostRuntime, asked: Asked, did: Did) {
     if did.said == console::STORED {
         say::say(b"answer=stored\n");
         return;
@@ -33,29 +36,30 @@ fn answer(asked: Asked, did: Did) {
     }
     if asked.call == console::START {
         say::hint(
+            rt,
             b"# recovery has begun: recover takes it to its end and names each cell that it stores\n",
         );
     }
     say::pair(b"answer=", did.value);
 }
 
-// What a call stored, brought to the file: its one store, or a commit's rows.
-fn bring(session: Session, asked: Asked, did: Did, medium: &[u8]) -> bool {
+// What a call stored, brought to the file: its one store, or a commit's rows, which the state before it tells.
+fn bring(file: &Option<File>, before: State, asked: Asked, did: Did, medium: &[u8]) -> bool {
     if asked.call != console::COMMIT {
-        return file::bring(session.fd, medium, did.at, did.size);
+        return file::bring(file, medium, did.at, did.size);
     }
-    let before = session.state;
     let after = did.state;
     let slots = after.numbers.slots;
-    storing::bring_rows(session.fd, medium, slots, before.numbers.f, after.numbers.f)
+    storing::bring_rows(file, medium, slots, before.numbers.f, after.numbers.f)
 }
 
 // A call's stores are brought to the file; only then it is answered.
-fn finish(session: Session, asked: Asked, did: Did, medium: &[u8]) -> Told {
+fn finish(rt: HostRuntime, session: Session, asked: Asked, did: Did, medium: &[u8]) -> Told {
+    let before = session.state;
     let state = did.state;
     let next = Session {
         state,
-        fd: session.fd,
+        file: session.file,
         size: session.size,
     };
     if did.refused != 0 {
@@ -66,10 +70,10 @@ fn finish(session: Session, asked: Asked, did: Did, medium: &[u8]) -> Told {
             on: true,
         };
     }
-    if bring(session, asked, did, medium) {} else {
+    if bring(&next.file, before, asked, did, medium) {} else {
         return file::failed(next);
     }
-    answer(asked, did);
+    answer(rt, asked, did);
     Told {
         session: next,
         on: true,
@@ -92,20 +96,20 @@ struct Walk {
     more: bool,
 }
 
-fn walked(session: Session, did: Did, medium: &[u8]) -> Walk {
+fn walked(rt: HostRuntime, session: Session, did: Did, medium: &[u8]) -> Walk {
     if did.said == console::CELL {} else {
         return Walk {
-            told: finish(session, asked(console::STEP), did, medium),
+            told: finish(rt, session, asked(console::STEP), did, medium),
             more: false,
         };
     }
     let state = did.state;
     let next = Session {
         state,
-        fd: session.fd,
+        file: session.file,
         size: session.size,
     };
-    if file::bring(session.fd, medium, did.at, did.size) {} else {
+    if file::bring(&next.file, medium, did.at, did.size) {} else {
         return Walk {
             told: file::failed(next),
             more: false,
@@ -122,6 +126,7 @@ fn walked(session: Session, did: Did, medium: &[u8]) -> Walk {
 }
 
 fn step_on(
+    rt: HostRuntime,
     session: Session,
     medium: &mut [u8],
     current: &mut [u64],
@@ -132,11 +137,12 @@ fn step_on(
     let state = session.state;
     let step = asked(console::STEP);
     let did = console::make(state, step, medium, current, first, last, waiting);
-    walked(session, did, medium)
+    walked(rt, session, did, medium)
 }
 
 // Recovery, to its end: each cell is named as it is stored. It stores every cell at most once, and then the head.
 fn recover_on(
+    rt: HostRuntime,
     session: Session,
     medium: &mut [u8],
     current: &mut [u64],
@@ -149,7 +155,7 @@ fn recover_on(
     while 0 < turns {
         turns -= 1;
         let now = told.session;
-        let walk = step_on(now, medium, current, first, last, waiting);
+        let walk = step_on(rt, now, medium, current, first, last, waiting);
         told = walk.told;
         if walk.more {} else {
             return told;
@@ -168,7 +174,7 @@ fn store_on(
     waiting: &mut [u8],
 ) -> Told {
     let state = session.state;
-    let rows = storing::store_rows(session.fd, state, medium, current, first, last, waiting);
+    let rows = storing::store_rows(&session.file, state, medium, current, first, last, waiting);
     stored(session, rows, medium)
 }
 
@@ -176,7 +182,7 @@ fn stored(session: Session, rows: Rows, medium: &[u8]) -> Told {
     let state = rows.state;
     let next = Session {
         state,
-        fd: session.fd,
+        file: session.file,
         size: session.size,
     };
     if rows.taken {} else {
@@ -199,6 +205,7 @@ fn stored(session: Session, rows: Rows, medium: &[u8]) -> Told {
 
 // An order on buffers of the medium's sizes.
 fn order_on(
+    rt: HostRuntime,
     session: Session,
     asked: Asked,
     medium: &mut [u8],
@@ -208,18 +215,19 @@ fn order_on(
     waiting: &mut [u8],
 ) -> Told {
     if asked.call == orders::RECOVER {
-        return recover_on(session, medium, current, first, last, waiting);
+        return recover_on(rt, session, medium, current, first, last, waiting);
     }
     if asked.call == orders::STORE {
         return store_on(session, medium, current, first, last, waiting);
     }
     let state = session.state;
     let did = console::make(state, asked, medium, current, first, last, waiting);
-    finish(session, asked, did, medium)
+    finish(rt, session, asked, did, medium)
 }
 
 // An order for the keeper, with the sizes that the medium's head names.
 fn call(
+    rt: HostRuntime,
     session: Session,
     asked: Asked,
     medium: &mut [u8],
@@ -236,6 +244,7 @@ fn call(
     let n2 = words::least(cells, last.len());
     let w = words::least(rows, waiting.len());
     order_on(
+        rt,
         session,
         asked,
         &mut medium[0..m],
@@ -269,6 +278,7 @@ fn aside<'a>(session: Session, order: Order, medium: &'a [u8], waiting: &'a [u8]
 
 // An order for the file that is open.
 fn on_file(
+    rt: HostRuntime,
     session: Session,
     order: Order,
     medium: &mut [u8],
@@ -278,22 +288,22 @@ fn on_file(
     waiting: &mut [u8],
 ) -> Told {
     if order.kind == orders::FORMAT {
-        return file::format(session, order.a, order.b, order.erase, medium);
+        return file::format(rt, session, order.a, order.b, order.erase, medium);
     }
     if orders::is_keepers(order.kind) {
         let asked = orders::asked(order);
-        return call(session, asked, medium, current, first, last, waiting);
+        return call(rt, session, asked, medium, current, first, last, waiting);
     }
     aside(session, order, medium, waiting)
 }
 
 // Whether an order can be taken with this session; where not, a line that says what was expected.
-fn fits(session: Session, order: Order) -> bool {
+fn fits(session: &Session, order: Order) -> bool {
     if order.wrong {
         say::usage(order.kind);
         return false;
     }
-    if 0 <= session.fd {
+    if session.file.is_some() {
         return true;
     }
     if orders::wants_file(order.kind) {
@@ -305,6 +315,7 @@ fn fits(session: Session, order: Order) -> bool {
 
 // One order. Open reads the file and starts recovery, which stores nothing.
 fn obey(
+    rt: HostRuntime,
     session: Session,
     order: Order,
     line: &[u8],
@@ -314,29 +325,33 @@ fn obey(
     last: &mut [u32],
     waiting: &mut [u8],
 ) -> Told {
-    let ok = fits(session, order);
+    let ok = fits(&session, order);
     if ok {} else {
         return Told { session, on: true };
     }
     if order.kind == orders::OPEN {
         let name = order.name;
-        let opened = file::open(session, line, name, medium);
+        let opened = file::open(rt, session, line, name, medium);
         let next = opened.session;
         if opened.on {} else {
-            return Told { session, on: true };
+            return Told {
+                session: next,
+                on: true,
+            };
         }
         let start = asked(console::START);
-        return call(next, start, medium, current, first, last, waiting);
+        return call(rt, next, start, medium, current, first, last, waiting);
     }
     if order.kind == orders::NEW {
         let name = order.name;
-        return file::make(session, line, name);
+        return file::make(rt, session, line, name);
     }
-    on_file(session, order, medium, current, first, last, waiting)
+    on_file(rt, session, order, medium, current, first, last, waiting)
 }
 
 // Orders until the input ends, one says quit, or the file fails.
 fn serve(
+    rt: HostRuntime,
     line: &mut [u8],
     medium: &mut [u8],
     current: &mut [u64],
@@ -344,12 +359,14 @@ fn serve(
     last: &mut [u32],
     waiting: &mut [u8],
 ) {
-    let mut session = file::session_at(-1, 0);
+    let mut session = file::session_at(None, 0);
     let mut turns: u64 = 18446744073709551615;
     while 0 < turns {
         turns -= 1;
-        let order = orders::next(line);
-        let told = obey(session, order, line, medium, current, first, last, waiting);
+        let order = orders::next(rt, line);
+        let told = obey(
+            rt, session, order, line, medium, current, first, last, waiting,
+        );
         session = told.session;
         if told.on {} else {
             return;
@@ -357,7 +374,7 @@ fn serve(
     }
 }
 
-fn main() {
+fn main(rt: HostRuntime) {
     let mut line = [0u8; 4200];
     let mut medium = [0u8; 40993];
     let mut current = [0u64; 1024];
@@ -365,6 +382,7 @@ fn main() {
     let mut last = [0u32; 1024];
     let mut waiting = [0u8; 32768];
     serve(
+        rt,
         &mut line,
         &mut medium,
         &mut current,

@@ -2,6 +2,8 @@
 // All that it says is `why_text::why`, over the bytes of the file.
 #![tactic(auto)]
 
+use std::rt::HostRuntime;
+
 // The line that asks: the second. An input that fills its buffer may go on, so it asks for no cell.
 fn asked(input: &[u8]) -> &[u8] {
     if input.len() == 65536 {
@@ -11,11 +13,11 @@ fn asked(input: &[u8]) -> &[u8] {
 }
 
 // The image is one byte longer than the largest medium, so that an overlong one is seen and refused. Of a file that can't be read it has no byte.
-fn main() {
+fn main(rt: HostRuntime) {
     let mut input = io::large_buffer();
     let got = io::read_full(0, &mut input);
     let mut image = [0u8; 40993];
-    let size = files::read_file(lines::nth_bytes(&input[0..got], 0), &mut image);
+    let size = files::read_file(rt, lines::nth_bytes(&input[0..got], 0), &mut image);
     let mut text = [0u8; 128];
     let end = why_text::why(&image[0..size], asked(&input[0..got]), &mut text);
     io::write_all(1, &text[0..end]);

@@ -4,16 +4,17 @@
 ghost use Rattle.std.specs.Prelude.{◌≡◌, ◌-◌, ◌<◌, ◌≤◌, leb, get_or};
 ghost use Rattle.words.specs.Words.{parsed, place_in, is_point, word_from, word_to, word_after, word_key, joined_release, word_number, word_release};
 
-use libc::STDIN_FILENO;
+// Standard input's descriptor.
+const STDIN_FILENO: i32 = 0;
 
 // A word's place in its line; an empty one has from = to.
-#[derive(Drop)]
+#[derive(Clone, Copy)]
 pub struct Span {
     pub from: usize,
     pub to: usize,
 }
 
-#[derive(Drop)]
+#[derive(Clone, Copy)]
 pub enum Parsed {
     Is(u64),
     Not,
@@ -201,7 +202,7 @@ pub fn release(s: &[u8], w: Span) -> Parsed
 // One byte of standard input, or 256 at its end.
 fn read_byte() -> u64 {
     let mut b = [0u8; 1];
-    let got = libc::read(STDIN_FILENO, &mut b);
+    let got = io::read_full(STDIN_FILENO, &mut b);
     if got == 1 {
         return wide(b[0]);
     }
