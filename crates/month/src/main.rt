@@ -10,7 +10,7 @@ use months::{Month, add_medium};
 use std::rt::HostRuntime;
 
 // A line that was read: its length, one more than its buffer's where it does not fit, and whether a newline ended it.
-#[derive(Drop)]
+#[derive(Clone, Copy)]
 struct Name {
     length: usize,
     ended: bool,

@@ -10,7 +10,7 @@ use recovered::head_number;
 use values::values;
 
 // How many files were named, how many of them refused, how many cells counted, how many releases have counts, and how many cells have others.
-#[derive(Drop)]
+#[derive(Clone, Copy)]
 pub struct Month {
     pub stores: u64,
     pub refused: u64,

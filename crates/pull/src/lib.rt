@@ -6,14 +6,14 @@ use keeper::{Answer, Outcome, State};
 use recovery::Step;
 
 // A state after a step, and whether recovery goes on.
-#[derive(Drop)]
+#[derive(Clone, Copy)]
 struct Went {
     state: State,
     on: bool,
 }
 
 // A state after steps, and how many cells they stored.
-#[derive(Drop)]
+#[derive(Clone, Copy)]
 struct Ran {
     state: State,
     made: u32,

@@ -8,7 +8,7 @@ use row::Fault;
 use state::{Numbers, Phase};
 
 // The medium of 176 bytes, the workspaces and the state.
-#[derive(Drop)]
+#[derive(Clone, Copy)]
 pub struct Desk {
     pub medium: [u8; 176],
     pub current: [u64; 2],
