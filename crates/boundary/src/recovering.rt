@@ -17,8 +17,7 @@ pub extern "C" fn keeper_recovery_start(
     reason: &mut u32,
     entry: &mut u32,
 ) -> u32
-    ensures {
-        let after = handed_over result 0 state.new medium.now current.new first.new last.new waiting.now in
+    ensures { let after = handed_over result 0 state.new medium.now current.new first.new last.new waiting.now in
         let wrong = start_told state.old medium.now current.old first.old last.old waiting.now in (after ≡ start_over state.old medium.now current.old first.old last.old waiting.now) × Tells wrong reason.new entry.new }
 {
     if state.len() != 7 {
@@ -42,8 +41,7 @@ pub extern "C" fn keeper_recovery_step(
     current: &[u64],
     value: &mut u64,
 ) -> u32
-    ensures {
-        let after = handed_over result value.new state.new medium.new current.now [] [] [] in after ≡ over step_value RecoveryStep state.old medium.old current.now [] [] [] }
+    ensures { let after = handed_over result value.new state.new medium.new current.now [] [] [] in after ≡ over step_value RecoveryStep state.old medium.old current.now [] [] [] }
 {
     let Held::State(s) = state_in(state) else {
         *value = 0;

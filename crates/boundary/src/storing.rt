@@ -29,8 +29,7 @@ pub extern "C" fn keeper_force(
     reason: &mut u32,
     entry: &mut u32,
 ) -> u32
-    ensures {
-        let after = handed_over result value.new state.new medium.new [] [] [] waiting.now in
+    ensures { let after = handed_over result value.new state.new medium.new [] [] [] waiting.now in
         let wrong = told Force (lent_over state.old medium.old [] [] [] waiting.now) in (after ≡ over value_of Force state.old medium.old [] [] [] waiting.now) × Tells wrong reason.new entry.new }
 {
     let Held::State(s) = state_in(state) else {
@@ -65,8 +64,7 @@ pub extern "C" fn keeper_write_back(
     last: &[u32],
     value: &mut u64,
 ) -> u32
-    ensures {
-        let after = handed_over result value.new state.new medium.new current.now first.new last.now [] in after ≡ over back_value (WriteBack cell) state.old medium.old current.now first.old last.now [] }
+    ensures { let after = handed_over result value.new state.new medium.new current.now first.new last.now [] in after ≡ over back_value (WriteBack cell) state.old medium.old current.now first.old last.now [] }
 {
     let Held::State(s) = state_in(state) else {
         *value = 0;
@@ -89,8 +87,7 @@ pub extern "C" fn keeper_cut(
     reason: &mut u32,
     entry: &mut u32,
 ) -> u32
-    ensures {
-        let after = handed_over result 0 state.new medium.new [] first.now [] [] in
+    ensures { let after = handed_over result 0 state.new medium.new [] first.now [] [] in
         let wrong = told (Cut p) (lent_over state.old medium.old [] first.now [] []) in (after ≡ over no_value (Cut p) state.old medium.old [] first.now [] []) × Tells wrong reason.new entry.new }
 {
     let Held::State(s) = state_in(state) else {

@@ -19,8 +19,7 @@ pub extern "C" fn keeper_begin(
     reason: &mut u32,
     entry: &mut u32,
 ) -> u32
-    ensures {
-        let after = handed_over result 0 state.new [] current.new first.new last.new waiting.new in
+    ensures { let after = handed_over result 0 state.new [] current.new first.new last.new waiting.new in
         let wrong = told Begin (lent_over state.old [] current.old first.old last.old waiting.old) in (after ≡ over no_value Begin state.old [] current.old first.old last.old waiting.old) × Tells wrong reason.new entry.new }
 {
     let Held::State(s) = state_in(state) else {
@@ -44,8 +43,7 @@ pub extern "C" fn keeper_begin(
 
 #[unsafe(no_mangle)]
 pub extern "C" fn keeper_read(state: &mut [u32], cell: u32, current: &[u64], value: &mut u64) -> u32
-    ensures {
-        let after = handed_over result value.new state.new [] current.now [] [] [] in after ≡ over value_of (Read cell) state.old [] current.now [] [] [] }
+    ensures { let after = handed_over result value.new state.new [] current.now [] [] [] in after ≡ over value_of (Read cell) state.old [] current.now [] [] [] }
 {
     let Held::State(s) = state_in(state) else {
         *value = 0;
@@ -69,8 +67,7 @@ pub extern "C" fn keeper_write(
     last: &mut [u32],
     waiting: &mut [u8],
 ) -> u32
-    ensures {
-        let after = handed_over result 0 state.new [] current.new first.new last.new waiting.new in after ≡ over no_value (Write cell new) state.old [] current.old first.old last.old waiting.old }
+    ensures { let after = handed_over result 0 state.new [] current.new first.new last.new waiting.new in after ≡ over no_value (Write cell new) state.old [] current.old first.old last.old waiting.old }
 {
     let Held::State(s) = state_in(state) else {
         return 1;
@@ -91,8 +88,7 @@ pub extern "C" fn keeper_commit(
     reason: &mut u32,
     entry: &mut u32,
 ) -> u32
-    ensures {
-        let after = handed_over result value.new state.new medium.new [] [] [] waiting.new in
+    ensures { let after = handed_over result value.new state.new medium.new [] [] [] waiting.new in
         let wrong = told Commit (lent_over state.old medium.old [] [] [] waiting.old) in (after ≡ over value_of Commit state.old medium.old [] [] [] waiting.old) × Tells wrong reason.new entry.new }
 {
     let Held::State(s) = state_in(state) else {
@@ -127,8 +123,7 @@ pub extern "C" fn keeper_abort(
     reason: &mut u32,
     entry: &mut u32,
 ) -> u32
-    ensures {
-        let after = handed_over result 0 state.new [] current.new first.new last.new waiting.new in
+    ensures { let after = handed_over result 0 state.new [] current.new first.new last.new waiting.new in
         let wrong = told Abort (lent_over state.old [] current.old first.old last.old waiting.old) in (after ≡ over no_value Abort state.old [] current.old first.old last.old waiting.old) × Tells wrong reason.new entry.new }
 {
     let Held::State(s) = state_in(state) else {

@@ -9,7 +9,7 @@ use std::fs::File;
 
 // The state after the rows stored so far and the last of their numbers; those that are not in the file yet, in one sector, the bytes from
 // `from` to `to`; a refusal's number and its fault; whether an entry may be left, and whether the file took what was brought.
-#[derive(Drop)]
+#[derive(Clone, Copy)]
 pub struct Rows {
     pub state: State,
     pub number: u64,

@@ -10,7 +10,7 @@ use borrow.Author.Tests.{eqb-true, leb-false, lt-ltb}
 use lib.Dec.{ltb}
 use lib.ListN.{length, take, drop, get_or}
 use Rattle.scope.specs.Bytes.{pick, bytes_of, put}
-use Rattle.scope.specs.Keeper.{Keeper, Outcome, done, refused, head, clean, stored, idle, value_of, medium_length, row_at, cell_at, waiting_row, head_bytes, with_state, with_medium, made_to, stored_next, dropped_to, store_cell, store_head}
+use Rattle.scope.specs.Keeper.{Keeper, Outcome, done, refused, head, clean, stored, idle, value_of, medium_length, row_at, cell_at, waiting_row, head_bytes, with_state, with_medium, made_to, dropped_to, store_cell, store_head}
 use Rattle.scope.specs.Recovery.{table_of, differing}
 use Rattle.scope.specs.Refusals.{Call, RecoveryStart, RecoveryStep, Begin, Abort, Force, Read, WriteBack, Cut, Write, is_medium, is_rows, lent, unfit, tests, refusal}
 use Rattle.scope.specs.Calls.{forced, unless, step_at, cleaned, act, performed, unchanged}

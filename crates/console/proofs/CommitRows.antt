@@ -3,19 +3,17 @@
 use Prim.Native.Nat.{ℕ, zero, suc, ◌+◌, ◌*◌, ◌-◌, ◌%◌, ◌≤◌, ◌<◌}
 use mathlib.Core.Path.{◌≡◌, refl, sym, ap, ◌∙◌, subst}
 use mathlib.Core.Logic.{◌≢◌}
-use mathlib.Core.Bool.{false}
 use mathlib.Core.List.{List}
 use native.Mathlib.Nat.{mod-lt, zero-add}
 use native.Mathlib.Decide.{dec_le}
 use native.Mathlib.Omega.{arith}
 use lib.ListN.{length, take, drop}
 use Rattle.scope.specs.Bytes.{put}
-use Rattle.scope.specs.Keeper.{Keeper, Outcome, idle, value_of, row_at, waiting_row, with_state, with_medium, with_waiting, made_to, stored_next, append}
+use Rattle.scope.specs.Keeper.{Keeper, value_of, row_at, waiting_row, with_state, with_medium, with_waiting, made_to, stored_next, append}
 use Rattle.scope.specs.Refusals.{Commit, refusal}
 use Rattle.scope.specs.Calls.{commit_made, forced, forced_by, unless, act, performed}
 use Rattle.scope.proofs.Bytes.{length-put, length-row, rows_apart, row_other, row_same}
-use Rattle.scope.proofs.Sound.{Sound}
-use Rattle.scope.proofs.CommitCall.{Ready, lengths, facts, made_ready}
+use Rattle.scope.proofs.CommitCall.{lengths, facts, made_ready}
 use Rattle.console.specs.Made.{rows_brought}
 
 -- C rows on the medium, and as many that wait

@@ -5,8 +5,6 @@ use mathlib.Core.Path.{◌≡◌, refl, sym, ap, subst, ◌∙◌}
 use mathlib.Core.List.{List, []}
 use native.Mathlib.Omega.{arith}
 use borrow.Author.Tests.{ne_eqb, lt-ltb}
-use lib.ListN.{take, drop}
-use Rattle.scope.specs.Bytes.{put}
 use Rattle.scope.specs.Keeper.{Keeper, Answer, Outcome, done, value_of, row_at, with_state, with_medium, with_waiting}
 use Rattle.scope.specs.Refusals.{Call, RecoveryStart, RecoveryStep, Begin, Commit, Abort, Force, Read, WriteBack, Cut, Write, told}
 use Rattle.scope.specs.Calls.{act}
@@ -21,7 +19,7 @@ use Rattle.keeper.specs.declared.State.{State}
 use Rattle.console.specs.declared.Asked.{Asked}
 use Rattle.console.specs.declared.Did.{Did}
 use Rattle.console.specs.Made.{Place, numbered_call, call_of, nowhere, force_place, place_of, did_of, brought, Made}
-use Rattle.console.proofs.Brings.{Brings, brings_begin, brings_abort, brings_write, brings_read, brings_start, brings-cut, brings_back, brings_force, brings_step, force_slots}
+use Rattle.console.proofs.Brings.{brings_begin, brings_abort, brings_write, brings_read, brings_start, brings-cut, brings_back, brings_force, brings_step, force_slots}
 use Rattle.console.proofs.CommitRows.{brings_commit}
 use Rattle.console.proofs.Telling.{tells_frame, start_tells, back_silent, step_silent}
 

@@ -1,6 +1,6 @@
 -- What the counter's program says to what it is asked: lines of input, of which the first names the medium, the second and third are lowest
 -- and count and the fourth, if there is one, the part in hand.
-use Rattle.std.specs.Prelude.{ℕ, zero, suc, ◌+◌, ◌≡◌, List, [], ◌∷◌, ◌++◌, ltb}
+use Rattle.std.specs.Prelude.{ℕ, zero, suc, ◌≡◌, List, [], ◌∷◌, ◌++◌, ltb}
 use Rattle.scope.specs.Bytes.{pick}
 use Rattle.scope.specs.Keeper.{Keeper, is_head_ok, refusal_of}
 use Rattle.scope.specs.History.{Event, History, reached, wanted}

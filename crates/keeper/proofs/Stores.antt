@@ -6,9 +6,9 @@ use mathlib.Core.List.{List, []}
 use borrow.Author.Tests.{lt-ltb, le-ltb}
 use native.Mathlib.Omega.{arith}
 use lib.Dec.{ltb}
-use lib.ListN.{get_or, set, take, drop}
+use lib.ListN.{get_or, set}
 use Rattle.scope.specs.Bytes.{bytes_of, put}
-use Rattle.scope.specs.Keeper.{Keeper, Outcome, done, refused, clean, stored, row_at, cell_at, waiting_row, head_bytes, with_state, with_medium, stored_next, dropped_to, store_cell, store_head}
+use Rattle.scope.specs.Keeper.{Keeper, done, refused, clean, stored, cell_at, head_bytes, with_state, with_medium, stored_next, dropped_to, store_cell, store_head}
 use Rattle.scope.specs.Refusals.{Force, WriteBack, Cut, refusal}
 use Rattle.scope.specs.Calls.{forced, cleaned, act, performed}
 use Rattle.state.specs.State.{state_of}

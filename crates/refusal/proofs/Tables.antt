@@ -1,6 +1,6 @@
 -- Each call's number is the table's: tests that are known, put into the table by congruence, and a table cut in two where a call looks at
 -- its buffers only after the first tests.
-use Prim.Native.Nat.{ℕ, ◌+◌, ◌-◌, ◌*◌, ◌≤◌, ◌<◌}
+use Prim.Native.Nat.{ℕ, ◌+◌, ◌*◌, ◌≤◌, ◌<◌}
 use mathlib.Core.Path.{◌≡◌, refl, sym, ap, ◌∙◌}
 use mathlib.Core.Bool.{Bool, true, false, ◌&&◌, ◌||◌, not}
 use mathlib.Core.List.{List, [], ◌∷◌, ◌++◌}
@@ -11,7 +11,7 @@ use lib.Dec.{eqb, ltb, leb}
 use lib.ListN.{length, get_or}
 use Rattle.scope.specs.Bytes.{pick}
 use Rattle.scope.specs.Row.{Entry, is_entry, is_update}
-use Rattle.scope.specs.Keeper.{Keeper, is_idle, is_run, is_recovering, medium_length, sound, medium_row}
+use Rattle.scope.specs.Keeper.{Keeper, is_idle, is_recovering, medium_length, sound, medium_row}
 use Rattle.scope.specs.Refusals.{Begin, Read, Write, Commit, Abort, Force, WriteBack, Cut, Look, lent, unfit, not_updates, not_entries, full, used_up, any_first, tests, first_no, refusal}
 use Rattle.scope.proofs.Refusals.{Numbered}
 use Rattle.scope.proofs.Told.{is_fault}

@@ -1,5 +1,5 @@
 -- What a refusal asks of rows, in the code's numbers.
-use Rattle.std.specs.Prelude.{ℕ, ◌-◌, Bool, ◌&&◌, not, List, eqb}
+use Rattle.std.specs.Prelude.{ℕ, ◌-◌, ◌&&◌, not, List, eqb}
 use Rattle.std.proofs.Math.Option.{Option}
 use Rattle.scope.specs.Bytes.{pick}
 use Rattle.scope.specs.Row.{Entry, is_entry, is_update, Reason, Fault, faultless, fault_at, lowest_fault}

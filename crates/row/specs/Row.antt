@@ -1,5 +1,5 @@
 -- What the answer of reading a row means, and what is told of one.
-use Rattle.std.specs.Prelude.{ℕ, Bool, ◌&&◌, ◌||◌, not, List, [], ◌∷◌, eqb}
+use Rattle.std.specs.Prelude.{ℕ, ◌&&◌, ◌||◌, not, List, [], ◌∷◌, eqb}
 use Rattle.std.proofs.Math.Option.{Option, none, some}
 use Rattle.scope.specs.Bytes.{pick, number_at}
 use Rattle.scope.specs.Row.{Entry, update, commit_entry, abort_entry, Reason, too_short, other_number, unknown_kind, filler_not_zero, cell_out_of_range, cell_left, old_left, new_left, not_update, hole, first_reason, Fault, faultless, fault}

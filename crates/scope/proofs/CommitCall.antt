@@ -2,28 +2,27 @@
 -- later ones so, and so none of them is refused.
 use Prim.Native.Nat.{ℕ, zero, suc, ◌+◌, ◌*◌, ◌-◌, ◌%◌, ◌≤◌, ◌<◌}
 use mathlib.Core.Path.{◌≡◌, refl, sym, ap, ◌∙◌, subst}
-use mathlib.Core.Bool.{Bool, true, false, ◌&&◌, not}
+use mathlib.Core.Bool.{true, false}
 use mathlib.Core.Logic.{◌≢◌}
 use mathlib.Core.List.{List, [], ◌∷◌}
 use native.Mathlib.Nat.{mod-lt, zero-add}
 use native.Mathlib.Decide.{dec_le}
 use native.Mathlib.Omega.{arith}
-use borrow.Author.Tests.{eqb-true, eq-eqb, lt-ltb, not-false}
-use lib.Dec.{eqb, ltb}
+use borrow.Author.Tests.{eqb-true, lt-ltb, not-false}
+use lib.Dec.{eqb}
 use lib.ListN.{length, take, drop, replicate}
 use Rattle.scope.specs.Bytes.{put}
 use Rattle.scope.specs.Row.{Entry, commit_entry, row_bytes, read_row, is_entry}
-use Rattle.scope.specs.Keeper.{idle, recovering, Keeper, Outcome, done, is_recovering, medium_length, sound, row_at, waiting_row, with_state, with_medium, with_waiting, made_to, stored_next, append}
+use Rattle.scope.specs.Keeper.{idle, recovering, Keeper, Outcome, done, is_recovering, medium_length, row_at, waiting_row, with_state, with_medium, with_waiting, made_to, stored_next, append}
 use Rattle.scope.specs.Recovery.{all_entries}
 use Rattle.scope.specs.Refusals.{Commit, Force, lent, unfit, not_entries, tests, refusal}
 use Rattle.scope.specs.Calls.{commit_made, forced, forced_by, unless, performed, act}
 use Rattle.scope.specs.History.{call, appends, happen, answers, after}
 use Rattle.scope.specs.Demands.{commit_steps, rising_from, CommitIsSteps}
 use Rattle.scope.proofs.Bytes.{length-put, length-row, rows_apart, row_other, row_same}
-use Rattle.scope.proofs.Row.{Fits, read_written, length-row_bytes}
+use Rattle.scope.proofs.Row.{read_written, length-row_bytes}
 use Rattle.scope.proofs.Represents.{Good, and_true}
 use Rattle.scope.proofs.Refusals.{NoneOf, refusal-none, act-done, call-done}
-use Rattle.scope.proofs.WriteCall.{running}
 use Rattle.scope.proofs.Sound.{Sound, sound_facts, fit_sound, fit_lent, made_commit_sound, force_sound}
 
 -- row by row

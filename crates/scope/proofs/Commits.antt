@@ -3,13 +3,13 @@
 use Prim.Native.Nat.{ℕ, zero, suc, ◌+◌, ◌-◌}
 use mathlib.Core.Path.{◌≡◌, refl, sym, ap, ◌∙◌, subst}
 use mathlib.Core.Logic.{◌⊎◌, inl, inr}
-use mathlib.Core.List.{List, [], ◌∷◌, ◌++◌, append-nil, append_assoc}
+use mathlib.Core.List.{List, [], ◌∷◌, ◌++◌, append-nil}
 use native.Mathlib.Omega.{arith}
 use lib.ListN.{length, replicate}
 use Rattle.scope.specs.Keeper.{Keeper, Answer, done, refusal_of, value_of}
 use Rattle.scope.specs.Refusals.{Format, RecoveryStart, RecoveryStep, Begin, Commit, Abort, Force, TableView, Read, WriteBack, Cut, Look, Write, refusal}
 use Rattle.scope.specs.Calls.{act}
-use Rattle.scope.specs.History.{Event, call, appends, power_loss, happen, answers, after, Allowed, formatted, History, reached, Writes, Transactions, nothing_yet, entry_stored, entry_made, writes_of, all_stored, lost, if_done, accepted, tell, story, transactions, afresh}
+use Rattle.scope.specs.History.{Event, call, appends, power_loss, happen, answers, after, Allowed, formatted, History, reached, Writes, Transactions, nothing_yet, entry_stored, entry_made, writes_of, all_stored, if_done, accepted, tell, story, transactions, afresh}
 use Rattle.scope.specs.Demands.{RecoversTo, commit_steps, rising_from, CommitCounts, InsideCommit, WholeCommits, NoneWaits, WholeOrNot, CommitMeansIt}
 use Rattle.scope.proofs.Entries.{writes_of_append}
 use Rattle.scope.proofs.CommitCall.{accepted_commit, made-first, commit_is_steps}

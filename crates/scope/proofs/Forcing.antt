@@ -1,7 +1,6 @@
 -- What so many of force's steps leave: f is so many higher, the medium keeps its length, and all else stays. By induction on the steps.
 use Prim.Native.Nat.{ℕ, zero, suc, ◌+◌}
 use mathlib.Core.Path.{◌≡◌, refl, ap, ◌∙◌}
-use native.Mathlib.Nat.{add-zero}
 use native.Mathlib.Omega.{arith}
 use Rattle.scope.specs.Keeper.{State, Keeper, with_state, with_medium, stored_next}
 use Rattle.scope.specs.Calls.{forced, forced_by}

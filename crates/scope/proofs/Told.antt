@@ -3,12 +3,10 @@
 -- of the rising rows off.
 use Prim.Native.Nat.{ℕ, zero, suc, ◌+◌, ◌-◌}
 use mathlib.Core.Path.{◌≡◌, refl, sym, ap, ◌∙◌}
-use mathlib.Core.Bool.{Bool, true, false, ◌&&◌, ◌||◌, not}
+use mathlib.Core.Bool.{Bool, true, false, ◌&&◌, not}
 use mathlib.Core.Option.{Option, none, some}
 use native.Mathlib.Omega.{arith}
 use borrow.Author.Tests.{eq-eqb, ne_eqb}
-use lib.Dec.{eqb}
-use Rattle.scope.specs.Bytes.{pick}
 use Rattle.scope.specs.Row.{Reason, Fault, faultless, fault, fault_at, lowest_fault, read_row, is_update, wrong_entry, wrong_update}
 use Rattle.scope.specs.Keeper.{Keeper, waiting_row}
 use Rattle.scope.specs.Recovery.{all_updates, all_entries}

@@ -9,7 +9,7 @@ use borrow.Author.Tests.{eq-eqb}
 use lib.ListN.{length, replicate, length-replicate}
 use Rattle.scope.specs.Bytes.{number_at}
 use Rattle.scope.specs.Row.{Fault, faultless, fault}
-use Rattle.scope.specs.Keeper.{done, is_head_ok}
+use Rattle.scope.specs.Keeper.{is_head_ok}
 use Rattle.scope.specs.Recovery.{journal, journal_fault, table_of}
 use Rattle.scope.specs.Refusals.{lent_start, is_none, tests, refusal}
 use Rattle.scope.specs.Calls.{act}

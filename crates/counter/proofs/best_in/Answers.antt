@@ -1,6 +1,6 @@
 -- `counter::best_in` meets its contract. Invariant: the best of the span that remains, after the best so far, is the best of the span.
 use native.Mathlib.Omega.{arith}
-use Prim.Native.Nat.{◌+◌, ◌-◌}
+use Prim.Native.Nat.{◌+◌}
 use mathlib.Core.Path.{refl, sym, ◌∙◌}
 use Rattle.counter.proofs.Spans.{best_start, best_again, best_end}
 use Rattle.counter.proofs.best_in.Goals as goal

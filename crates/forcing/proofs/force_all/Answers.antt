@@ -1,5 +1,4 @@
 -- `forcing::force_all` meets its contract. The steps that remain, from here, leave what all leave from the start.
-use Prim.Native.Nat.{◌-◌}
 use mathlib.Core.Path.{◌∙◌}
 use native.Mathlib.Omega.{arith}
 use Rattle.forcing.proofs.Steps.{same-room, still_storing, fewer, forced_again, forced-end}

@@ -1,5 +1,4 @@
 -- `months::add_cells` meets its contract. The invariant: the cells that remain, added to what was counted, give what all give.
-use Prim.Native.Nat.{◌-◌}
 use native.Mathlib.Omega.{arith}
 use Rattle.months.proofs.Adding.{cells_again, cells-end}
 use Rattle.months.proofs.add_cells.Goals as goal

@@ -1,5 +1,4 @@
 -- `months::place_of` meets its contract. The invariant: what remains of the releases gives the place that all give.
-use Prim.Native.Nat.{◌-◌}
 use native.Mathlib.Omega.{arith}
 use Rattle.months.proofs.Adding.{place_starts, place_found, place_again, place_end}
 use Rattle.months.proofs.place_of.Goals as goal

@@ -1,6 +1,5 @@
 -- `reasons::tell_all` meets its contract. The invariant: what remains of the walk, after what was read, says what all of it says. The measure: how many
 -- entries it may still meet.
-use Prim.Native.Nat.{◌-◌}
 use native.Mathlib.Omega.{arith}
 use Rattle.reasons.proofs.Telling.{tale_starts, tale_ends, tale-counts, tale_goes}
 use Rattle.reasons.proofs.tell_all.Goals as goal

@@ -16,6 +16,6 @@ returns-in-3 c = of_abort _ _ _ _ _ _ _ c.ended-in-3.ensures.1 c.ended-in-3.ensu
 pub returns-in-0 : goal.returns-in-0
 returns-in-0 c =
     elim c.in-0-1.branch [
-      in-0-1 w ↦ of_unknown _ _ _ _ _ (omega arith) (omega arith) (omega arith) _ c.unread.ensures
-    | in_default-1 w ↦ of_unknown _ _ _ _ _ (omega arith) (omega arith) (omega arith) _ c.unread.ensures
+      | in-0-1 w ↦ of_unknown _ _ _ _ _ (omega arith) (omega arith) (omega arith) _ c.unread.ensures
+      | in_default-1 w ↦ of_unknown _ _ _ _ _ (omega arith) (omega arith) (omega arith) _ c.unread.ensures
     ]

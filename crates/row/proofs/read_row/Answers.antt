@@ -16,6 +16,9 @@ pub returns-then-cells-cell : goal.returns-then-cells-cell
 returns-then-cells-cell c = record { entry = (row_outside _ _ _ (omega arith) (omega arith) (omega arith) (omega arith) _ c.unread.ensures (omega arith)).0; reason = (row_outside _ _ _ (omega arith) (omega arith) (omega arith) (omega arith) _ c.unread.ensures (omega arith)).1 }
 
 pub returns : goal.returns
-returns c = record { entry = (row_read _ _ _ (omega arith) (omega arith) (omega arith) (omega arith) (omega arith) _ _
-    (of_fields _ _ _ _ _ _ _ _ _ _ _ c.of_kind.ensures (omega arith) (omega arith) (omega arith) (omega arith))).0; reason = (row_read _ _ _ (omega arith) (omega arith) (omega arith) (omega arith) (omega arith) _ _
-    (of_fields _ _ _ _ _ _ _ _ _ _ _ c.of_kind.ensures (omega arith) (omega arith) (omega arith) (omega arith))).1 }
+returns c = record {
+  entry = (row_read _ _ _ (omega arith) (omega arith) (omega arith) (omega arith) (omega arith) _ _
+      (of_fields _ _ _ _ _ _ _ _ _ _ _ c.of_kind.ensures (omega arith) (omega arith) (omega arith) (omega arith))).0;
+  reason = (row_read _ _ _ (omega arith) (omega arith) (omega arith) (omega arith) (omega arith) _ _
+      (of_fields _ _ _ _ _ _ _ _ _ _ _ c.of_kind.ensures (omega arith) (omega arith) (omega arith) (omega arith))).1;
+}

@@ -1,5 +1,4 @@
 -- `values::last_met` meets its contract. The invariant: the entries after n have the last entry of all. The measure: how many may still count.
-use Prim.Native.Nat.{◌-◌}
 use mathlib.Core.Path.{sym, ap, ◌∙◌}
 use native.Mathlib.Omega.{arith}
 use Rattle.scope.specs.Bytes.{number_at}

@@ -1,5 +1,4 @@
 -- `workspace::any_first` meets its contract. What was found and the cells that remain decide what all decide.
-use Prim.Native.Nat.{◌-◌}
 use native.Mathlib.Omega.{arith}
 use Rattle.workspace.proofs.Restoring.{first_found, first_above, first-zero, first-end}
 use Rattle.workspace.proofs.any_first.Goals as goal
@@ -10,12 +9,11 @@ returns c = first-end c.args.p c.args.first.now _ c.loop-i.found c.loop-i.i c.lo
 
 pub loop-i-preserved : goal.loop-i-preserved
 loop-i-preserved c =
-    let l = c.loop-i in
-    (
+    let l = c.loop-i in (
       omega arith,
       elim c.if-mark-gt0.branch [
-        then-mark-gt0+then-mark-p w ↦ first_found _ _ _ l.found l.i l.invariant.1 (omega arith) c.if-mark-gt0.found (omega arith) (omega arith) w.found-is
-      | then-mark-gt0+else-mark-p w ↦ first_above _ _ _ l.found l.i l.invariant.1 (omega arith) c.if-mark-gt0.found (omega arith) (omega arith) w.found-is
-      | else-mark-gt0 w ↦ first-zero _ _ _ l.found l.i l.invariant.1 (omega arith) c.if-mark-gt0.found (omega arith) w.found-is
+        | then-mark-gt0+then-mark-p w ↦ first_found _ _ _ l.found l.i l.invariant.1 (omega arith) c.if-mark-gt0.found (omega arith) (omega arith) w.found-is
+        | then-mark-gt0+else-mark-p w ↦ first_above _ _ _ l.found l.i l.invariant.1 (omega arith) c.if-mark-gt0.found (omega arith) (omega arith) w.found-is
+        | else-mark-gt0 w ↦ first-zero _ _ _ l.found l.i l.invariant.1 (omega arith) c.if-mark-gt0.found (omega arith) w.found-is
       ],
     )

@@ -1,5 +1,4 @@
 -- `workspace::lowest_bad` meets its contract. The rows that remain have the same lowest one.
-use Prim.Native.Nat.{◌-◌}
 use mathlib.Core.Path.{◌∙◌}
 use native.Mathlib.Omega.{arith}
 use Rattle.workspace.proofs.Judging.{due_or_wrong, lowest_done, lowest_again, lowest_found}

@@ -1,5 +1,4 @@
 -- `workspace::rollback` meets its contract. The rows that remain, rolled back from here, give what all give from the start.
-use Prim.Native.Nat.{◌-◌}
 use borrow.Author.Rules.{rules}
 use native.Mathlib.Omega.{arith}
 use Rattle.workspace.proofs.Restoring.{roll_again, roll_end}

@@ -7,8 +7,7 @@ pub returns-then-state-ne7 : goal.returns-then-state-ne7
 returns-then-state-ne7 c = start_other _ _ _ _ _ _ (omega arith)
 
 pub returns : goal.returns
-returns c =
-    (
-      start_crossed _ _ _ _ _ _ (omega arith) c.recovery_start-out.result.state _ _ _ _ _ _ _ _ c.recovery_start-out.ensures.0 c.number_of.ensures c.put_state.ensures,
-      start_tells _ _ _ _ _ _ (omega arith) _ c.recovery_start-out.ensures.1 _ _ c.tell.ensures,
-    )
+returns c = (
+  start_crossed _ _ _ _ _ _ (omega arith) c.recovery_start-out.result.state _ _ _ _ _ _ _ _ c.recovery_start-out.ensures.0 c.number_of.ensures c.put_state.ensures,
+  start_tells _ _ _ _ _ _ (omega arith) _ c.recovery_start-out.ensures.1 _ _ c.tell.ensures,
+)

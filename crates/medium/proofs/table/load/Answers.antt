@@ -1,5 +1,4 @@
 -- `load` reads the whole table. Invariant: the first i values are the table's, the others as they were.
-use Prim.Native.Nat.{◌-◌}
 use native.Mathlib.Omega.{arith}
 use lib.ListN.{length-set}
 use Rattle.scope.specs.Keeper.{cell_at}
@@ -15,14 +14,13 @@ unfolding cell_at
 get8-requires c = omega arith
 
 pub loop-i-preserved : goal.loop-i-preserved
-loop-i-preserved c =
-    (
-      omega arith,
-      (
-        simp length-set (omega arith),
-        load_again c.args.current.now _ _ _ _ _ c.cell_at-base.ensures c.get8.ensures (omega arith) _ c.loop-i.invariant.1.1,
-      ),
-    )
+loop-i-preserved c = (
+  omega arith,
+  (
+    simp length-set (omega arith),
+    load_again c.args.current.now _ _ _ _ _ c.cell_at-base.ensures c.get8.ensures (omega arith) _ c.loop-i.invariant.1.1,
+  ),
+)
 
 pub returns : goal.returns
 returns c = load_end c.args.current.now _ _ c.loop-i.i (omega arith) _ c.loop-i.invariant.1.1

@@ -1,5 +1,4 @@
 -- `lowest_differing` is the lowest cell that differs. Invariant: the search from cell i on has the answer of the whole search.
-use Prim.Native.Nat.{◌-◌}
 use native.Mathlib.Omega.{arith}
 use Rattle.scope.specs.Keeper.{cell_at}
 use Rattle.medium.proofs.Cells.{differing_again, differing-found, differing-end}
@@ -19,12 +18,11 @@ returns-then-current-i c =
     c.loop-i.invariant.1 c.if-current-i.true
 
 pub loop-i-preserved : goal.loop-i-preserved
-loop-i-preserved c =
-    (
-      omega arith,
-      differing_again c.args.current.now _ _ _ _ _ c.cell_at-base.ensures c.get8.ensures (omega arith) _
-          c.loop-i.invariant.1 c.if-current-i.false,
-    )
+loop-i-preserved c = (
+  omega arith,
+  differing_again c.args.current.now _ _ _ _ _ c.cell_at-base.ensures c.get8.ensures (omega arith) _
+      c.loop-i.invariant.1 c.if-current-i.false,
+)
 
 pub returns : goal.returns
 returns c = differing-end c.args.current.now _ _ c.loop-i.i (omega arith) _ c.loop-i.invariant.1

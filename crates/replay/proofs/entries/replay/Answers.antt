@@ -1,5 +1,4 @@
 -- `replay::entries::replay` meets its contract. Entries h + 1 to e replayed are replay_from. The invariant: replaying what remains, n + 1 to e, makes of the table what all of it makes of the first, and the place is entry n + 1's.
-use Prim.Native.Nat.{◌-◌}
 use borrow.Author.Rules.{rules}
 use mathlib.Core.Path.{◌∙◌}
 use native.Mathlib.Omega.{arith}
