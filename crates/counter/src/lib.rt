@@ -55,6 +55,7 @@ fn release(value: u64) -> u64
 }
 
 // Whether a cell with this value counts.
+#[tactic(auto, using(crate::proofs::Spans::counts_empty))]
 fn counts(sought: Sought, value: u64) -> bool
     ensures { result ≡ counts sought value }
 {

@@ -35,6 +35,7 @@ fn newline(s: &[u8], at: usize) -> usize
 }
 
 // Where the line ends that begins at a place and has its newline at another: before the CR of a CR LF.
+#[tactic(auto, using(crate::proofs::Lined::end_cr))]
 fn line_end(s: &[u8], at: usize, newline: usize) -> usize
     requires { (at ≤ newline) × (newline ≤ length s.now) }
     ensures { result ≡ line_end at newline s.now }
@@ -137,6 +138,7 @@ fn with_digit(n: u64, byte: u8) -> Decimal
 }
 
 // The decimal number that a line is: digits and nothing else, at least one, within 64 bits. Zeros in front are accepted.
+#[tactic(auto, using(crate::proofs::Numbered::decimal_blank))]
 pub fn decimal_of(line: &[u8]) -> Decimal
     ensures { result ≡ decimal_of line.now }
 {

@@ -65,6 +65,7 @@ fn met_after(i: usize, met: usize) -> usize
 }
 
 // A cell counted; an empty one is not.
+#[tactic(auto, using(crate::proofs::Adding::cell_empty))]
 fn add_cell(value: u64, month: Month, releases: &mut [u32], counts: &mut [u64]) -> Month
     requires { Sized month releases.old counts.old }
     ensures { Tallies result releases.new counts.new (add_cell value (tally month releases.old counts.old)) }

@@ -21,7 +21,8 @@ fn put_value(value: u64, text: &mut [u8], at: usize) -> usize
     ensures { Wrote text.old at (value_line value) text.new result }
 {
     let part = put_bytes(b"value=", text, at);
-    if value == 0 {
+    let empty = value == 0;
+    if empty {
         return put_bytes(b"empty\n", text, part);
     }
     let major = put_decimal((value % 4294967296) as u32, b':', text, part);

@@ -103,6 +103,7 @@ pub fn is_empty(w: Span) -> bool
 }
 
 // A word of up to 8 bytes as one number, its first byte the highest; 0 for a longer one.
+#[tactic(auto, using(crate::proofs::Digits::key_wide), unfolding(crate::specs::Words::word_key))]
 pub fn key(s: &[u8], w: Span) -> u64
     ensures { result ≡ word_key s.now w }
 {

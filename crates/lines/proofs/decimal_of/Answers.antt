@@ -1,11 +1,8 @@
 -- `lines::decimal_of` meets its contract. Invariant: the bytes that remain, after the number so far, give what all give.
 use native.Mathlib.Omega.{arith}
 use mathlib.Core.Path.{sym, ◌∙◌}
-use Rattle.lines.proofs.Numbered.{decimal_again, decimal_stop, decimal-end, decimal_blank, decimal_all}
+use Rattle.lines.proofs.Numbered.{decimal_again, decimal_stop, decimal-end, decimal_all}
 use Rattle.lines.proofs.decimal_of.Goals as goal
-
-pub returns-then-line-eq0 : goal.returns-then-line-eq0
-returns-then-line-eq0 c = decimal_blank _ (omega arith)
 
 pub returns-in_default : goal.returns-in_default
 returns-in_default c =

@@ -1,6 +1,6 @@
 -- `lines::line_end` meets its contract. One law for each way out.
 use native.Mathlib.Omega.{arith}
-use Rattle.lines.proofs.Lined.{end-last, end_blank, end_cr, end_plain}
+use Rattle.lines.proofs.Lined.{end-last, end_blank, end_plain}
 use Rattle.lines.proofs.line_end.Goals as goal
 
 pub returns-then-newline-s : goal.returns-then-newline-s
@@ -9,8 +9,5 @@ returns-then-newline-s c = end-last _ _ _ (omega arith)
 pub returns-then-newline-at : goal.returns-then-newline-at
 returns-then-newline-at c = end_blank _ _ _ (omega arith)
 
-pub returns-then-s-newline-eq13 : goal.returns-then-s-newline-eq13
-returns-then-s-newline-eq13 c = end_cr _ _ _ (omega arith) (omega arith) (omega arith)
-
 pub returns : goal.returns
-returns c = end_plain _ _ _ (omega arith) (omega arith) c.if-s-newline-eq13.false
+returns c = end_plain _ _ _ (omega arith) (omega arith) (omega arith)

@@ -5,8 +5,8 @@ use Rattle.text.proofs.Writing.{length-ended}
 use Rattle.why_text.proofs.Saying.{value_empty, value-full}
 use Rattle.why_text.proofs.put_value.Goals as goal
 
-pub returns-then-value-eq0 : goal.returns-then-value-eq0
-returns-then-value-eq0 c = value_empty c.args.value c.if-value-eq0.true c.put_bytes-part.ensures c.put_bytes.ensures c.requires
+pub returns-then-empty : goal.returns-then-empty
+returns-then-empty c = value_empty c.args.value (omega arith) c.put_bytes-part.ensures c.put_bytes.ensures c.requires
 
 pub put_decimal-minor-requires : goal.put_decimal-minor-requires
 put_decimal-minor-requires c = omega (arith, length-ended (c.args.value % 4294967296) 58, c.put_decimal-major.ensures.end, c.put_bytes-part.ensures.end)
@@ -17,4 +17,4 @@ put_decimal-requires c =
     omega (arith, length-ended (v % 4294967296) 58, length-ended (v / 4294967296 % 65536) 46, c.put_decimal-minor.ensures.end, c.put_decimal-major.ensures.end, c.put_bytes-part.ensures.end)
 
 pub returns : goal.returns
-returns c = value-full c.args.value c.if-value-eq0.false c.put_bytes-part.ensures c.put_decimal-major.ensures c.put_decimal-minor.ensures c.put_decimal.ensures c.requires
+returns c = value-full c.args.value (λ z. omega arith) c.put_bytes-part.ensures c.put_decimal-major.ensures c.put_decimal-minor.ensures c.put_decimal.ensures c.requires

@@ -2,15 +2,11 @@
 use mathlib.Core.Path.{sym, ◌∙◌}
 use native.Mathlib.Omega.{arith}
 use Rattle.words.specs.Words.{word_key}
-use Rattle.words.proofs.Digits.{key_wide, key_on, key_end}
+use Rattle.words.proofs.Digits.{key_on, key_end}
 use Rattle.words.proofs.key.Goals as goal
 
-pub returns-then-k-gt72057594037927935 : goal.returns-then-k-gt72057594037927935
-unfolding word_key
-returns-then-k-gt72057594037927935 c = sym (c.loop-i.invariant ∙ key_wide _ _ _ _ (omega arith) c.if-k-gt72057594037927935.true)
-
 pub loop-i-preserved : goal.loop-i-preserved
-loop-i-preserved c = c.loop-i.invariant ∙ key_on _ _ _ _ _ (omega arith) (omega arith) c.if-k-gt72057594037927935.false
+loop-i-preserved c = c.loop-i.invariant ∙ key_on _ _ _ _ _ (omega arith) (omega arith) (omega arith)
 
 pub returns : goal.returns
 unfolding word_key
