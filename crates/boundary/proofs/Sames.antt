@@ -1,4 +1,4 @@
--- Two outcomes that the contract of an export permits are equal. Each contract equates the `result` of the call, all that a host has after it, with what one
+-- Two outcomes that the contract of an export permits are equal. Each contract equates what the call `handed_over`, all that a host has after it, with what one
 -- definition gives of what was lent; look's and table view's fix the number and the place, and five calls' what is told of a row. These laws hold of any right side, and so of each contract as it
 -- stands. By taking the record apart.
 use Prim.Native.Nat.{ℕ}

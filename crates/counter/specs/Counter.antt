@@ -22,7 +22,7 @@ major v = v / 4294967296 % 65536
 unfoldable pub minor : ℕ → ℕ
 minor v = v / 281474976710656 % 65536
 
--- a release as one number. "major then minor as numbers": the laws `above-release` and `release-above`
+-- a release as one number. "major then minor as numbers": the laws `above_release` and `release_above`
 unfoldable pub release : ℕ → ℕ
 release v = 65536 * major v + minor v
 

@@ -1,4 +1,4 @@
--- The number of rows read at most is atMost: by its test.
+-- The number of rows read at most is `at_most`: by its test.
 use Rattle.replay.proofs.Turns.{most_all, most_left}
 use native.Mathlib.Omega.{arith}
 use Rattle.replay.proofs.scan.at_most.Goals as goal
