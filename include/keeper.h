@@ -59,8 +59,8 @@
  *   between the stores of such a write is brought as the real medium has it: in the image a row whose turn has not come may stand there.
  *
  * How to link
- *   scripts/native-archive boundary FOLDER proves the library and writes FOLDER/libboundary.a for this machine (on x86-64 it is the
- *   archive of `rt staticlib boundary`). Then: cc -Iinclude host.c -LFOLDER -lboundary. No other library is needed.
+ *   scripts/native-archive boundary FOLDER proves the library and writes FOLDER/libboundary.a for this machine, x86-64 (it is the
+ *   archive of the crate boundary_c). Then: cc -Iinclude host.c -LFOLDER -lboundary. No other library is needed.
  *   examples/host.c is a whole host over this header. docs/FORMAT.md says what document 01 says of the medium and the calls.
  */
 #ifndef KEEPER_H
