@@ -125,12 +125,14 @@ fn named(rt: HostRuntime, line: &[u8], name: Span, new: bool) -> Option<File> {
         .ok()
 }
 
-// Opens the file that the line names and reads it; nothing is stored. The session before it is kept where that fails.
+// What is said where a file can't be opened.
+pub fn say_unopened() -> bool {
+    say::say(b"# no such file, or it can't be read and written; new FILE makes one\nerror=file\n")
+}
+
+// Opens the file that the line names and reads it; nothing is stored. The session before it is kept where that fails, and nothing is said.
 pub fn open(rt: HostRuntime, session: Session, line: &[u8], name: Span, medium: &mut [u8]) -> Told {
     let Some(file) = named(rt, line, name, false) else {
-        say::say(
-            b"# no such file, or it can't be read and written; new FILE makes one\nerror=file\n",
-        );
         return Told { session, on: false };
     };
     drop(session);
@@ -146,17 +148,17 @@ pub fn open(rt: HostRuntime, session: Session, line: &[u8], name: Span, medium: 
 // Makes the file that the line names, empty. A name that is taken is refused, and the session before it is kept.
 pub fn make(rt: HostRuntime, session: Session, line: &[u8], name: Span) -> Told {
     let Some(file) = named(rt, line, name, true) else {
-        say::say(
+        let heard = say::say(
             b"# the name is taken, or no file can be made there; open FILE opens one\nerror=file\n",
         );
-        return Told { session, on: true };
+        return Told { session, on: heard };
     };
     drop(session);
-    say::say(b"# the file was made, empty: format CELLS ROWS is next\nanswer=0\n");
+    let heard = say::say(b"# the file was made, empty: format CELLS ROWS is next\nanswer=0\n");
     let made = session_at(Some(file), 0);
     Told {
         session: made,
-        on: true,
+        on: heard,
     }
 }
 
@@ -172,28 +174,32 @@ fn ends_at(file: &Option<File>, size: usize) -> bool {
     end == size as u64
 }
 
-// Whether the file still has the length that was read.
-fn same_length(file: &Option<File>, size: usize) -> bool {
-    if 40992 < size {
-        return false;
-    }
-    if ends_at(file, size) {
-        return true;
-    }
-    say::say(
-        b"# the file's length is not what it was when it was opened: open it again\nerror=file\n",
-    );
-    false
+// Whether a format may touch the file; where not, why it stays as it is.
+#[derive(Clone, Copy)]
+enum Touch {
+    Free,
+    TooLong,
+    OtherLength,
+    NoMedium,
+    Medium,
 }
 
-// Whether a format may touch the file: an empty one; a medium, where the order says so in words. Anything else stays as it is.
-fn free_to_format(session: &Session, erase: bool, medium: &[u8]) -> bool {
+// Whether the file still has the length that was read.
+fn same_length(file: &Option<File>, size: usize) -> Touch {
+    if 40992 < size {
+        return Touch::TooLong;
+    }
+    if ends_at(file, size) {
+        return Touch::Free;
+    }
+    Touch::OtherLength
+}
+
+// An empty file may be touched; a medium, where the order says so in words. Anything else stays as it is.
+fn may_touch(session: &Session, erase: bool, medium: &[u8]) -> Touch {
     let cause = show::cause(medium, session.size);
     if cause == say::NO_MEDIUM {
-        say::say(
-            b"# the file is neither empty nor a medium, so it stays as it is: choose another name, or remove it first\nerror=file\n",
-        );
-        return false;
+        return Touch::NoMedium;
     }
     if cause == say::EMPTY {
         return same_length(&session.file, session.size);
@@ -201,10 +207,22 @@ fn free_to_format(session: &Session, erase: bool, medium: &[u8]) -> bool {
     if erase {
         return same_length(&session.file, session.size);
     }
-    say::say(
-        b"# the file is a medium, so it stays as it is: format CELLS ROWS erase erases its table and its journal\nerror=erase\n",
-    );
-    false
+    Touch::Medium
+}
+
+fn say_kept(why: Touch) -> bool {
+    match why {
+        Touch::Free | Touch::TooLong => true,
+        Touch::OtherLength => say::say(
+            b"# the file's length is not what it was when it was opened: open it again\nerror=file\n",
+        ),
+        Touch::NoMedium => say::say(
+            b"# the file is neither empty nor a medium, so it stays as it is: choose another name, or remove it first\nerror=file\n",
+        ),
+        Touch::Medium => say::say(
+            b"# the file is a medium, so it stays as it is: format CELLS ROWS erase erases its table and its journal\nerror=erase\n",
+        ),
+    }
 }
 
 // The file cut or stretched to a length.
@@ -220,8 +238,8 @@ fn format_on(rt: HostRuntime, session: Session, cells: u32, slots: u32, medium: 
     let size = medium.len();
     let no = medium::head::format(medium, cells, slots);
     if no != 0 {
-        say::sizes();
-        return Told { session, on: true };
+        let heard = say::sizes();
+        return Told { session, on: heard };
     }
     if 40992 < size {
         return failed(session);
@@ -233,11 +251,11 @@ fn format_on(rt: HostRuntime, session: Session, cells: u32, slots: u32, medium: 
         return failed(session);
     }
     say::hint(rt, b"# an empty table: start, then recover, then begin\n");
-    say::say(b"answer=0\n");
+    let heard = say::say(b"answer=0\n");
     let formatted = session_at(session.file, size);
     Told {
         session: formatted,
-        on: true,
+        on: heard,
     }
 }
 
@@ -252,13 +270,14 @@ pub fn format(
 ) -> Told {
     let ranged = medium::layout::in_range(cells, slots);
     if ranged {} else {
-        say::sizes();
-        return Told { session, on: true };
+        let heard = say::sizes();
+        return Told { session, on: heard };
     }
-    let free = free_to_format(&session, erase, medium);
-    if free {} else {
-        return Told { session, on: true };
-    }
+    let may = may_touch(&session, erase, medium);
+    let Touch::Free = may else {
+        let heard = say_kept(may);
+        return Told { session, on: heard };
+    };
     let m = words::least(medium::layout::medium_length(cells, slots), medium.len());
     format_on(rt, session, cells, slots, &mut medium[0..m])
 }

@@ -1,5 +1,5 @@
 // What the terminal writes. The last line of each reply begins with answer=, refused= or error=; a line for people begins with #. A
-// person at a keyboard gets a prompt and hints besides; a script gets neither.
+// person at a keyboard gets a prompt and hints besides; a script gets neither. What writes a reply answers whether its last part was taken.
 use row::Fault;
 use std::io::IsTerminal;
 use std::rt::HostRuntime;
@@ -14,14 +14,14 @@ pub const NO_MEDIUM: u32 = 1;
 
 pub const NO_RECOVERY: u32 = 2;
 
-pub fn say(text: &[u8]) {
-    io::write_all(STDOUT_FILENO, text);
+pub fn say(text: &[u8]) -> bool {
+    io::write_all(STDOUT_FILENO, text)
 }
 
-pub fn pair(name: &[u8], n: u64) {
+pub fn pair(name: &[u8], n: u64) -> bool {
     say(name);
     io::print_decimal(STDOUT_FILENO, n);
-    say(b"\n");
+    say(b"\n")
 }
 
 // Whether a person is at the keyboard.
@@ -45,20 +45,20 @@ pub fn hint(rt: HostRuntime, text: &[u8]) {
 }
 
 // Refusal 1, with its cause.
-pub fn unfit(why: u32) {
+pub fn unfit(why: u32) -> bool {
     if why == EMPTY {
-        say(b"# the file is empty: format CELLS ROWS is next\nrefused=1\n");
-        return;
+        return say(b"# the file is empty: format CELLS ROWS is next\nrefused=1\n");
     }
     if why == NO_MEDIUM {
-        say(b"# the file is no medium: its length or its head is not that of one\nrefused=1\n");
-        return;
+        return say(
+            b"# the file is no medium: its length or its head is not that of one\nrefused=1\n",
+        );
     }
-    say(b"# no recovery has run on this medium: start, or open it again\nrefused=1\n");
+    say(b"# no recovery has run on this medium: start, or open it again\nrefused=1\n")
 }
 
-pub fn sizes() {
-    say(b"# sizes out of rule: CELLS is 1 to 1024, ROWS is 4 to 1024\nrefused=1\n");
+pub fn sizes() -> bool {
+    say(b"# sizes out of rule: CELLS is 1 to 1024, ROWS is 4 to 1024\nrefused=1\n")
 }
 
 fn meaning_low(n: u32) {
@@ -108,15 +108,14 @@ fn meaning(n: u32) {
 }
 
 // A refusal other than 1, in words and by its number; the words of 2 and 7 are what is wrong with the row.
-pub fn refused(n: u32, fault: Fault) {
+pub fn refused(n: u32, fault: Fault) -> bool {
     let Fault::At { reason, entry } = fault else {
         meaning(n);
-        pair(b"refused=", n as u64);
-        return;
+        return pair(b"refused=", n as u64);
     };
     say(b"# ");
     faults::print(entry, reason);
-    pair(b"\nrefused=", n as u64);
+    pair(b"\nrefused=", n as u64)
 }
 
 // A cell's value, in the listing's form.
@@ -150,27 +149,24 @@ fn usage_numbers(kind: u32) {
     say(b"# expected: one number below 4294967296, as in read 0, back 0, cut 2, look 3\n");
 }
 
-pub fn usage(kind: u32) {
+pub fn usage(kind: u32) -> bool {
     if kind == crate::UNKNOWN {
-        say(
+        return say(
             b"# expected: new open format start step recover begin write read commit store force back cut abort look list help quit\nerror=word\n",
         );
-        return;
     }
     if kind == crate::LONG {
-        say(b"# expected: a line of at most 4200 bytes\nerror=line\n");
-        return;
+        return say(b"# expected: a line of at most 4200 bytes\nerror=line\n");
     }
     let alone = crate::alone(kind);
     if alone {
-        say(b"# expected: this word and nothing after it\nerror=words\n");
-        return;
+        return say(b"# expected: this word and nothing after it\nerror=words\n");
     }
     usage_numbers(kind);
-    say(b"error=words\n");
+    say(b"error=words\n")
 }
 
-pub fn help() {
+pub fn help() -> bool {
     say(
         b"# new FILE makes an empty file; format CELLS ROWS makes it a medium; open FILE opens one and starts recovery;\n",
     );
@@ -179,9 +175,9 @@ pub fn help() {
     say(
         b"# store stores every entry that waits; force stores one; back CELL stores a cell; cut ENTRY stores the head;\n",
     );
-    say(b"# look ENTRY; list; quit\nanswer=0\n");
+    say(b"# look ENTRY; list; quit\nanswer=0\n")
 }
 
-pub fn no_file() {
-    say(b"# no file is open: open FILE, or new FILE, first\nerror=file\n");
+pub fn no_file() -> bool {
+    say(b"# no file is open: open FILE, or new FILE, first\nerror=file\n")
 }

@@ -62,31 +62,29 @@ pub fn cause(medium: &[u8], size: usize) -> u32 {
 }
 
 // A refusal of a call on this medium.
-pub fn refused(n: u32, fault: Fault, medium: &[u8]) {
+pub fn refused(n: u32, fault: Fault, medium: &[u8]) -> bool {
     if n == 1 {
-        say::unfit(cause_of(medium));
-        return;
+        return say::unfit(cause_of(medium));
     }
-    say::refused(n, fault);
+    say::refused(n, fault)
 }
 
 // The table as it stands on the medium, in the listing's form.
-fn list_of(medium: &[u8]) {
+fn list_of(medium: &[u8]) -> bool {
     let no = medium::head::table_view_number(medium);
     if no != 0 {
-        say::unfit(cause_of(medium));
-        return;
+        return say::unfit(cause_of(medium));
     }
     say::pair(b"cells=", head_number(medium, 0) as u64);
     say::pair(b"slots=", head_number(medium, 4) as u64);
     say::pair(b"head=", head_number(medium, 8) as u64);
     cells(medium::head::table_view(medium));
-    say::say(b"answer=0\n");
+    say::say(b"answer=0\n")
 }
 
-pub fn list(medium: &[u8], size: usize) {
+pub fn list(medium: &[u8], size: usize) -> bool {
     let m = words::least(size, medium.len());
-    list_of(&medium[0..m]);
+    list_of(&medium[0..m])
 }
 
 // Bytes, two digits each.
@@ -99,20 +97,19 @@ fn hex(part: &[u8]) {
     }
 }
 
-fn look_at<'a>(state: State, n: u32, medium: &'a [u8], waiting: &'a [u8]) {
+fn look_at<'a>(state: State, n: u32, medium: &'a [u8], waiting: &'a [u8]) -> bool {
     let no = state.look_number(n, medium, waiting);
     if no != 0 {
-        refused(no, Fault::None, medium);
-        return;
+        return refused(no, Fault::None, medium);
     }
     say::say(b"entry=");
     hex(state.look(n, medium, waiting));
-    say::say(b"\nanswer=0\n");
+    say::say(b"\nanswer=0\n")
 }
 
 // An entry's 32 bytes, where they stand.
-pub fn look<'a>(state: State, n: u32, medium: &'a [u8], waiting: &'a [u8], size: usize) {
+pub fn look<'a>(state: State, n: u32, medium: &'a [u8], waiting: &'a [u8], size: usize) -> bool {
     let m = words::least(size, medium.len());
     let w = words::least(row_bytes(medium), waiting.len());
-    look_at(state, n, &medium[0..m], &waiting[0..w]);
+    look_at(state, n, &medium[0..m], &waiting[0..w])
 }

@@ -12,24 +12,20 @@ use orders::{Order, say, show};
 use std::fs::File;
 use std::rt::HostRuntime;
 
-// What a call answered.
-fn answer(rt: HostRuntime, asked: Asked, did: Did) {
+// What a call answered, and whether the answer was taken.
+fn answer(rt: HostRuntime, asked: Asked, did: Did) -> bool {
     if did.said == console::STORED {
-        say::say(b"answer=stored\n");
-        return;
+        return say::say(b"answer=stored\n");
     }
     if did.said == console::CLEAN {
-        say::say(b"answer=clean\n");
-        return;
+        return say::say(b"answer=clean\n");
     }
     if did.said == console::CELL {
         say::pair(b"cell=", did.value);
-        say::say(b"answer=cell\n");
-        return;
+        return say::say(b"answer=cell\n");
     }
     if did.said == console::HEAD {
-        say::say(b"answer=head\n");
-        return;
+        return say::say(b"answer=head\n");
     }
     if asked.call == console::READ {
         say::value(did.value);
@@ -40,7 +36,7 @@ fn answer(rt: HostRuntime, asked: Asked, did: Did) {
             b"# recovery has begun: recover takes it to its end and names each cell that it stores\n",
         );
     }
-    say::pair(b"answer=", did.value);
+    say::pair(b"answer=", did.value)
 }
 
 // What a call stored, brought to the file: its one store, or a commit's rows, which the state before it tells.
@@ -64,19 +60,19 @@ fn finish(rt: HostRuntime, session: Session, asked: Asked, did: Did, medium: &[u
     };
     if did.refused != 0 {
         let fault = did.fault;
-        show::refused(did.refused, fault, medium);
+        let heard = show::refused(did.refused, fault, medium);
         return Told {
             session: next,
-            on: true,
+            on: heard,
         };
     }
     if bring(&next.file, before, asked, did, medium) {} else {
         return file::failed(next);
     }
-    answer(rt, asked, did);
+    let heard = answer(rt, asked, did);
     Told {
         session: next,
-        on: true,
+        on: heard,
     }
 }
 
@@ -115,13 +111,13 @@ fn walked(rt: HostRuntime, session: Session, did: Did, medium: &[u8]) -> Walk {
             more: false,
         };
     }
-    say::pair(b"cell=", did.value);
+    let heard = say::pair(b"cell=", did.value);
     Walk {
         told: Told {
             session: next,
-            on: true,
+            on: heard,
         },
-        more: true,
+        more: heard,
     }
 }
 
@@ -190,16 +186,16 @@ fn stored(session: Session, rows: Rows, medium: &[u8]) -> Told {
     }
     if rows.refused != 0 {
         let fault = rows.fault;
-        show::refused(rows.refused, fault, medium);
+        let heard = show::refused(rows.refused, fault, medium);
         return Told {
             session: next,
-            on: true,
+            on: heard,
         };
     }
-    say::pair(b"answer=", rows.number);
+    let heard = say::pair(b"answer=", rows.number);
     Told {
         session: next,
-        on: true,
+        on: heard,
     }
 }
 
@@ -262,16 +258,17 @@ fn aside<'a>(session: Session, order: Order, medium: &'a [u8], waiting: &'a [u8]
         return Told { session, on: false };
     }
     if kind == orders::HELP {
-        say::help();
-        return Told { session, on: true };
+        let heard = say::help();
+        return Told { session, on: heard };
     }
     if kind == orders::LIST {
-        show::list(medium, session.size);
-        return Told { session, on: true };
+        let heard = show::list(medium, session.size);
+        return Told { session, on: heard };
     }
     if kind == orders::LOOK {
         let state = session.state;
-        show::look(state, order.a, medium, waiting, session.size);
+        let heard = show::look(state, order.a, medium, waiting, session.size);
+        return Told { session, on: heard };
     }
     Told { session, on: true }
 }
@@ -297,20 +294,26 @@ fn on_file(
     aside(session, order, medium, waiting)
 }
 
-// Whether an order can be taken with this session; where not, a line that says what was expected.
+// Whether an order can be taken with this session.
 fn fits(session: &Session, order: Order) -> bool {
     if order.wrong {
-        say::usage(order.kind);
         return false;
     }
     if session.file.is_some() {
         return true;
     }
     if orders::wants_file(order.kind) {
-        say::no_file();
         return false;
     }
     true
+}
+
+// A line that says what was expected, where an order can't be taken.
+fn expected(order: Order) -> bool {
+    if order.wrong {
+        return say::usage(order.kind);
+    }
+    say::no_file()
 }
 
 // One order. Open reads the file and starts recovery, which stores nothing.
@@ -327,7 +330,10 @@ fn obey(
 ) -> Told {
     let ok = fits(&session, order);
     if ok {} else {
-        return Told { session, on: true };
+        return Told {
+            session,
+            on: expected(order),
+        };
     }
     if order.kind == orders::OPEN {
         let name = order.name;
@@ -336,7 +342,7 @@ fn obey(
         if opened.on {} else {
             return Told {
                 session: next,
-                on: true,
+                on: file::say_unopened(),
             };
         }
         let start = asked(console::START);
@@ -349,7 +355,7 @@ fn obey(
     on_file(rt, session, order, medium, current, first, last, waiting)
 }
 
-// Orders until the input ends, one says quit, or the file fails.
+// Orders until the input ends, one says quit, the file fails, or nobody takes an answer any more.
 fn serve(
     rt: HostRuntime,
     line: &mut [u8],
