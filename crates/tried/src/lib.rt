@@ -1,4 +1,4 @@
-// A keeper with N = 2 and C = 4, and each call of the library tried on it: what it was, and its answer, in one line.
+// A desk: a keeper with the medium and the workspaces that it is lent. Each call of the library is a method, and its answer can be told in a line.
 #![tactic(auto)]
 
 use keeper::{Answer, Back, Outcome, State};
@@ -7,407 +7,286 @@ use recovery::Step;
 use row::Fault;
 use state::{Numbers, Phase};
 
-// The medium of 176 bytes, the workspaces and the state.
+// What a call answered; beside a refusal's number what is wrong with a row.
 #[derive(Clone, Copy)]
-pub struct Desk {
-    pub medium: [u8; 176],
-    pub current: [u64; 2],
-    pub first: [u32; 2],
-    pub last: [u32; 2],
-    pub waiting: [u8; 128],
-    pub state: State,
+pub enum Told {
+    Done(u64),
+    Cell(u32),
+    Head,
+    Stored,
+    Clean,
+    Refused { number: u32, fault: Fault },
+    // A look's number, and how long the part is.
+    Part { number: u32, length: usize },
+    // The last entry made.
+    Last(u32),
 }
 
-fn end(key: &[u8], value: u64) {
-    io::write_all(1, key);
+impl From<Outcome> for Told {
+    fn from(out: Outcome) -> Told {
+        let fault = out.fault;
+        match out.answer {
+            Answer::Done(value) => Told::Done(value),
+            Answer::Refused(number) => Told::Refused { number, fault },
+        }
+    }
+}
+
+impl From<Step> for Told {
+    fn from(answer: Step) -> Told {
+        match answer {
+            Step::Cell(cell) => Told::Cell(cell),
+            Step::Head => Told::Head,
+            Step::Clean => Told::Clean,
+            Step::Refused(number) => Told::Refused {
+                number,
+                fault: Fault::None,
+            },
+        }
+    }
+}
+
+impl From<Back> for Told {
+    fn from(answer: Back) -> Told {
+        match answer {
+            Back::Stored => Told::Stored,
+            Back::Clean => Told::Clean,
+            Back::Refused(number) => Told::Refused {
+                number,
+                fault: Fault::None,
+            },
+        }
+    }
+}
+
+fn key(name: &[u8], value: u64) {
+    io::write_all(1, name);
     io::print_decimal(1, value);
-    io::write_all(1, b"\n");
 }
 
 // A refusal's number, and beside it what is wrong with a row.
 fn refused(number: u32, fault: Fault) {
-    let Fault::At { reason, entry } = fault else {
-        end(b" refused=", number as u64);
-        return;
-    };
-    io::write_all(1, b" refused=");
-    io::print_decimal(1, number as u64);
-    io::write_all(1, b" ");
-    faults::print(entry, reason);
+    key(b" refused=", u64::from(number));
+    if let Fault::At { reason, entry } = fault {
+        io::write_all(1, b" ");
+        faults::print(entry, reason);
+    }
+}
+
+// What was tried and its answer, in one line.
+pub fn tell(what: &[u8], told: Told) {
+    io::write_all(1, what);
+    match told {
+        Told::Done(value) => key(b" done=", value),
+        Told::Cell(cell) => key(b" cell=", u64::from(cell)),
+        Told::Head => key(b" head=", 1),
+        Told::Stored => key(b" stored=", 1),
+        Told::Clean => key(b" clean=", 1),
+        Told::Refused { number, fault } => refused(number, fault),
+        Told::Part { number, length } => {
+            key(b" refused=", u64::from(number));
+            key(b" part=", length as u64);
+        }
+        Told::Last(entry) => key(b" last=", u64::from(entry)),
+    }
     io::write_all(1, b"\n");
 }
 
-pub fn told(what: &[u8], out: Outcome) {
-    io::write_all(1, what);
-    let answer = out.answer;
-    let fault = out.fault;
-    match answer {
-        Answer::Done(value) => end(b" done=", value),
-        Answer::Refused(number) => refused(number, fault),
+// A keeper of N cells: its medium of M bytes, its workspaces, with W bytes of waiting rows, and its state.
+#[derive(Clone, Copy)]
+pub struct Desk<const N: usize, const M: usize, const W: usize> {
+    pub medium: [u8; M],
+    pub current: [u64; N],
+    pub first: [u32; N],
+    pub last: [u32; N],
+    pub waiting: [u8; W],
+    pub state: State,
+}
+
+// N = 2 and C = 4.
+pub type SmallDesk = Desk<2, 176, 128>;
+
+impl<const N: usize, const M: usize, const W: usize> Desk<N, M, W> {
+    // Formatted, with no state.
+    pub fn formatted(cells: u32, slots: u32) -> Self {
+        let mut medium = [0; M];
+        format(&mut medium, cells, slots);
+        let numbers = Numbers {
+            cells: 0,
+            slots: 0,
+            h: 0,
+            f: 0,
+            l: 0,
+            o: 0,
+        };
+        Desk {
+            medium,
+            current: [0; N],
+            first: [0; N],
+            last: [0; N],
+            waiting: [0; W],
+            state: State {
+                numbers,
+                phase: Phase::Idle,
+            },
+        }
+    }
+
+    // Formatted and recovered.
+    pub fn recovered(cells: u32, slots: u32) -> Self {
+        let mut desk = Self::formatted(cells, slots);
+        desk.start();
+        desk.step();
+        desk
+    }
+
+    pub fn start(&mut self) -> Told {
+        let out = State::recovery_start(
+            &self.medium,
+            &mut self.current,
+            &mut self.first,
+            &mut self.last,
+            &self.waiting,
+        );
+        self.state = out.state;
+        Told::from(out)
+    }
+
+    // A start without a medium.
+    pub fn start_empty(&mut self) -> Told {
+        let nothing = [0u8; 0];
+        let out = State::recovery_start(
+            &nothing,
+            &mut self.current,
+            &mut self.first,
+            &mut self.last,
+            &self.waiting,
+        );
+        self.state = out.state;
+        Told::from(out)
+    }
+
+    pub fn step(&mut self) -> Told {
+        let out = self.state.recovery_step(&mut self.medium, &self.current);
+        self.state = out.state;
+        Told::from(out.answer)
+    }
+
+    pub fn begin(&mut self) -> Told {
+        let out = self.state.begin(
+            &mut self.current,
+            &mut self.first,
+            &mut self.last,
+            &mut self.waiting,
+        );
+        self.state = out.state;
+        Told::from(out)
+    }
+
+    pub fn abort(&mut self) -> Told {
+        let out = self.state.abort(
+            &mut self.current,
+            &mut self.first,
+            &mut self.last,
+            &mut self.waiting,
+        );
+        self.state = out.state;
+        Told::from(out)
+    }
+
+    pub fn write(&mut self, cell: u32, value: u64) -> Told {
+        let out = self.state.write(
+            cell,
+            value,
+            &mut self.current,
+            &mut self.first,
+            &mut self.last,
+            &mut self.waiting,
+        );
+        self.state = out.state;
+        Told::from(out)
+    }
+
+    pub fn read(&self, cell: u32) -> Told {
+        Told::from(self.state.read(cell, &self.current))
+    }
+
+    pub fn commit(&mut self) -> Told {
+        let out = self.state.commit(&mut self.medium, &mut self.waiting);
+        self.state = out.state;
+        Told::from(out)
+    }
+
+    // A commit that is lent a medium's bytes for the waiting rows, and one that is lent waiting rows for the medium: copies of them.
+    pub fn commit_medium(&self) -> Told {
+        let mut medium = self.medium;
+        let mut rows = self.medium;
+        Told::from(self.state.commit(&mut medium, &mut rows))
+    }
+
+    pub fn commit_rows(&self) -> Told {
+        let mut medium = self.waiting;
+        let mut rows = self.waiting;
+        Told::from(self.state.commit(&mut medium, &mut rows))
+    }
+
+    pub fn force(&mut self) -> Told {
+        let out = self.state.force(&mut self.medium, &self.waiting);
+        self.state = out.state;
+        Told::from(out)
+    }
+
+    pub fn write_back(&mut self, cell: u32) -> Told {
+        let out = self.state.write_back(
+            cell,
+            &mut self.medium,
+            &self.current,
+            &mut self.first,
+            &self.last,
+        );
+        self.state = out.state;
+        Told::from(out.answer)
+    }
+
+    pub fn cut(&mut self, p: u32) -> Told {
+        let out = self.state.cut(p, &mut self.medium, &self.first);
+        self.state = out.state;
+        Told::from(out)
+    }
+
+    pub fn look(&self, n: u32) -> Told {
+        let number = self.state.look_number(n, &self.medium, &self.waiting);
+        let part = self.state.look(n, &self.medium, &self.waiting);
+        Told::Part {
+            number,
+            length: part.len(),
+        }
+    }
+
+    // The last entry made.
+    pub fn last_made(&self) -> Told {
+        Told::Last(self.state.numbers.l)
+    }
+
+    // A byte of the medium, or of the waiting rows, changed.
+    pub fn poke(&mut self, at: usize, byte: u8) {
+        put(&mut self.medium, at, byte);
+    }
+
+    pub fn poke_row(&mut self, at: usize, byte: u8) {
+        put(&mut self.waiting, at, byte);
     }
 }
 
-fn told_step(what: &[u8], answer: Step) {
-    io::write_all(1, what);
-    match answer {
-        Step::Cell(cell) => end(b" cell=", cell as u64),
-        Step::Head => end(b" head=", 1),
-        Step::Clean => end(b" clean=", 1),
-        Step::Refused(number) => end(b" refused=", number as u64),
-    }
-}
-
-fn told_back(what: &[u8], answer: Back) {
-    io::write_all(1, what);
-    match answer {
-        Back::Stored => end(b" stored=", 1),
-        Back::Clean => end(b" clean=", 1),
-        Back::Refused(number) => end(b" refused=", number as u64),
-    }
-}
-
-// The last entry made.
-pub fn last_made(what: &[u8], d: Desk) {
-    io::write_all(1, what);
-    let state = d.state;
-    end(b" last=", state.numbers.l as u64);
-}
-
-pub fn start(what: &[u8], d: Desk) -> Desk {
-    let medium = d.medium;
-    let mut current = d.current;
-    let mut first = d.first;
-    let mut last = d.last;
-    let waiting = d.waiting;
-    let out = State::recovery_start(&medium, &mut current, &mut first, &mut last, &waiting);
-    told(what, out);
-    let next = out.state;
-    Desk {
-        medium,
-        current,
-        first,
-        last,
-        waiting,
-        state: next,
-    }
-}
-
-// A start without a medium.
-pub fn start_empty(what: &[u8], d: Desk) -> Desk {
-    let medium = d.medium;
-    let mut current = d.current;
-    let mut first = d.first;
-    let mut last = d.last;
-    let waiting = d.waiting;
-    let nothing = [0u8; 0];
-    let out = State::recovery_start(&nothing, &mut current, &mut first, &mut last, &waiting);
-    told(what, out);
-    let next = out.state;
-    Desk {
-        medium,
-        current,
-        first,
-        last,
-        waiting,
-        state: next,
-    }
-}
-
-pub fn step(what: &[u8], d: Desk) -> Desk {
-    let mut medium = d.medium;
-    let current = d.current;
-    let first = d.first;
-    let last = d.last;
-    let waiting = d.waiting;
-    let state = d.state;
-    let out = state.recovery_step(&mut medium, &current);
-    let answer = out.answer;
-    told_step(what, answer);
-    let next = out.state;
-    Desk {
-        medium,
-        current,
-        first,
-        last,
-        waiting,
-        state: next,
-    }
-}
-
-pub fn begin(what: &[u8], d: Desk) -> Desk {
-    let medium = d.medium;
-    let mut current = d.current;
-    let mut first = d.first;
-    let mut last = d.last;
-    let mut waiting = d.waiting;
-    let state = d.state;
-    let out = state.begin(&mut current, &mut first, &mut last, &mut waiting);
-    told(what, out);
-    let next = out.state;
-    Desk {
-        medium,
-        current,
-        first,
-        last,
-        waiting,
-        state: next,
-    }
-}
-
-pub fn abort(what: &[u8], d: Desk) -> Desk {
-    let medium = d.medium;
-    let mut current = d.current;
-    let mut first = d.first;
-    let mut last = d.last;
-    let mut waiting = d.waiting;
-    let state = d.state;
-    let out = state.abort(&mut current, &mut first, &mut last, &mut waiting);
-    told(what, out);
-    let next = out.state;
-    Desk {
-        medium,
-        current,
-        first,
-        last,
-        waiting,
-        state: next,
-    }
-}
-
-// A write of the value 7.
-pub fn write(what: &[u8], d: Desk, cell: u32) -> Desk {
-    let medium = d.medium;
-    let mut current = d.current;
-    let mut first = d.first;
-    let mut last = d.last;
-    let mut waiting = d.waiting;
-    let state = d.state;
-    let out = state.write(cell, 7, &mut current, &mut first, &mut last, &mut waiting);
-    told(what, out);
-    let next = out.state;
-    Desk {
-        medium,
-        current,
-        first,
-        last,
-        waiting,
-        state: next,
-    }
-}
-
-pub fn read(what: &[u8], d: Desk, cell: u32) {
-    let current = d.current;
-    let state = d.state;
-    let out = state.read(cell, &current);
-    told(what, out);
-}
-
-pub fn commit(what: &[u8], d: Desk) -> Desk {
-    let mut medium = d.medium;
-    let current = d.current;
-    let first = d.first;
-    let last = d.last;
-    let mut waiting = d.waiting;
-    let state = d.state;
-    let out = state.commit(&mut medium, &mut waiting);
-    told(what, out);
-    let next = out.state;
-    Desk {
-        medium,
-        current,
-        first,
-        last,
-        waiting,
-        state: next,
-    }
-}
-
-// A commit that is lent a medium's bytes for the waiting rows, and one that is lent waiting rows for the medium.
-pub fn commit_medium(what: &[u8], d: Desk) {
-    let mut medium = d.medium;
-    let mut rows = d.medium;
-    let state = d.state;
-    let out = state.commit(&mut medium, &mut rows);
-    told(what, out);
-}
-
-pub fn commit_rows(what: &[u8], d: Desk) {
-    let mut medium = d.waiting;
-    let mut rows = d.waiting;
-    let state = d.state;
-    let out = state.commit(&mut medium, &mut rows);
-    told(what, out);
-}
-
-pub fn force(what: &[u8], d: Desk) -> Desk {
-    let mut medium = d.medium;
-    let current = d.current;
-    let first = d.first;
-    let last = d.last;
-    let waiting = d.waiting;
-    let state = d.state;
-    let out = state.force(&mut medium, &waiting);
-    told(what, out);
-    let next = out.state;
-    Desk {
-        medium,
-        current,
-        first,
-        last,
-        waiting,
-        state: next,
-    }
-}
-
-pub fn write_back(what: &[u8], d: Desk, cell: u32) -> Desk {
-    let mut medium = d.medium;
-    let current = d.current;
-    let mut first = d.first;
-    let last = d.last;
-    let waiting = d.waiting;
-    let state = d.state;
-    let out = state.write_back(cell, &mut medium, &current, &mut first, &last);
-    let answer = out.answer;
-    told_back(what, answer);
-    let next = out.state;
-    Desk {
-        medium,
-        current,
-        first,
-        last,
-        waiting,
-        state: next,
-    }
-}
-
-pub fn cut(what: &[u8], d: Desk, p: u32) -> Desk {
-    let mut medium = d.medium;
-    let current = d.current;
-    let first = d.first;
-    let last = d.last;
-    let waiting = d.waiting;
-    let state = d.state;
-    let out = state.cut(p, &mut medium, &first);
-    told(what, out);
-    let next = out.state;
-    Desk {
-        medium,
-        current,
-        first,
-        last,
-        waiting,
-        state: next,
-    }
-}
-
-// A look: the number, and how long the part is.
-pub fn look(what: &[u8], d: Desk, n: u32) {
-    let medium = d.medium;
-    let waiting = d.waiting;
-    let state = d.state;
-    let refused = state.look_number(n, &medium, &waiting);
-    io::write_all(1, what);
-    io::write_all(1, b" refused=");
-    io::print_decimal(1, refused as u64);
-    let part = state.look(n, &medium, &waiting);
-    end(b" part=", part.len() as u64);
-}
-
-// Formatted, with no state.
-pub fn formatted() -> Desk {
-    let mut medium = [0u8; 176];
-    format(&mut medium, 2, 4);
-    let numbers = Numbers {
-        cells: 0,
-        slots: 0,
-        h: 0,
-        f: 0,
-        l: 0,
-        o: 0,
-    };
-    let state = State {
-        numbers,
-        phase: Phase::Idle,
-    };
-    Desk {
-        medium,
-        current: [0; 2],
-        first: [0; 2],
-        last: [0; 2],
-        waiting: [0; 128],
-        state,
-    }
-}
-
-// Formatted and recovered, untold.
-pub fn fresh() -> Desk {
-    let mut medium = [0u8; 176];
-    let mut current = [0u64; 2];
-    let mut first = [0u32; 2];
-    let mut last = [0u32; 2];
-    let waiting = [0u8; 128];
-    format(&mut medium, 2, 4);
-    let out = State::recovery_start(&medium, &mut current, &mut first, &mut last, &waiting);
-    let started = out.state;
-    let ended = started.recovery_step(&mut medium, &current);
-    let state = ended.state;
-    Desk {
-        medium,
-        current,
-        first,
-        last,
-        waiting,
-        state,
-    }
-}
-
-// A byte of the medium, or of the waiting rows, changed.
-pub fn poke(d: Desk, at: usize, byte: u8) -> Desk {
-    let mut medium = d.medium;
-    put(&mut medium, at, byte);
-    let current = d.current;
-    let first = d.first;
-    let last = d.last;
-    let waiting = d.waiting;
-    let state = d.state;
-    Desk {
-        medium,
-        current,
-        first,
-        last,
-        waiting,
-        state,
-    }
-}
-
-pub fn poke_row(d: Desk, at: usize, byte: u8) -> Desk {
-    let mut waiting = d.waiting;
-    put(&mut waiting, at, byte);
-    let medium = d.medium;
-    let current = d.current;
-    let first = d.first;
-    let last = d.last;
-    let state = d.state;
-    Desk {
-        medium,
-        current,
-        first,
-        last,
-        waiting,
-        state,
+impl Desk<2, 176, 128> {
+    // Formatted and recovered.
+    pub fn fresh() -> Self {
+        Self::recovered(2, 4)
     }
 }
 
 fn put(bytes: &mut [u8], at: usize, byte: u8) {
-    if at < bytes.len() {
-        bytes[at] = byte;
+    if let Some(place) = bytes.get_mut(at) {
+        *place = byte;
     }
-}
-
-// h of the medium, M or some numbers below it.
-pub fn poke_h(d: Desk, below: u8) -> Desk {
-    let a = poke(d, 8, 255 - below);
-    let b = poke(a, 9, 255);
-    let c = poke(b, 10, 255);
-    poke(c, 11, 255)
 }
