@@ -1,62 +1,71 @@
 // A row that is lost before others is a hole, and nothing is recovered; the last rows lost are the journal's end.
-use tried::{Desk, formatted, last_made, poke, poke_h, start};
+use tried::{SmallDesk, tell};
 
 // The four rows, each with a number and kind 3, all else zero.
-fn rows(a: u8, b: u8, c: u8, d: u8) -> Desk {
-    let one = poke(formatted(), 32, a);
-    let one_end = poke(one, 36, 3);
-    let two = poke(one_end, 64, b);
-    let two_end = poke(two, 68, 3);
-    let three = poke(two_end, 96, c);
-    let three_end = poke(three, 100, 3);
-    let four = poke(three_end, 128, d);
-    poke(four, 132, 3)
+fn rows(numbers: [u32; 4]) -> SmallDesk {
+    let mut desk = SmallDesk::formatted(2, 4);
+    for (i, &number) in numbers.iter().enumerate() {
+        let at = 32 + 32 * i;
+        number::put4(&mut desk.medium, at, number);
+        desk.medium[at + 4] = 3;
+    }
+    desk
 }
 
 // What recovery start answers, and the last entry that it read.
-fn tell(what: &[u8], d: Desk) {
-    let started = start(what, d);
-    last_made(what, started);
+fn tell_start(what: &[u8], mut desk: SmallDesk) {
+    tell(what, desk.start());
+    tell(what, desk.last_made());
 }
 
 // h = 0: a row lost, and one in another's place or past h + C, which does not count.
 fn from_first() {
-    tell(b"hole rows=1,2,3,4", rows(1, 2, 3, 4));
-    tell(b"hole rows=1,2,3,0", rows(1, 2, 3, 0));
-    tell(b"hole rows=0,2,3,0", rows(0, 2, 3, 0));
-    tell(b"hole rows=1,0,3,4", rows(1, 0, 3, 4));
-    tell(b"hole rows=1,0,0,4", rows(1, 0, 0, 4));
-    tell(b"hole rows=1,0,0,8", rows(1, 0, 0, 8));
-    tell(b"hole rows=1,0,4,3", rows(1, 0, 4, 3));
+    let cases: [(&[u8], [u32; 4]); 7] = [
+        (b"hole rows=1,2,3,4", [1, 2, 3, 4]),
+        (b"hole rows=1,2,3,0", [1, 2, 3, 0]),
+        (b"hole rows=0,2,3,0", [0, 2, 3, 0]),
+        (b"hole rows=1,0,3,4", [1, 0, 3, 4]),
+        (b"hole rows=1,0,0,4", [1, 0, 0, 4]),
+        (b"hole rows=1,0,0,8", [1, 0, 0, 8]),
+        (b"hole rows=1,0,4,3", [1, 0, 4, 3]),
+    ];
+    for (what, numbers) in cases {
+        tell_start(what, rows(numbers));
+    }
 }
 
 // h = 2: the rows of 1 and 2 are left over, or used again for 5 and 6.
 fn used_again() {
-    tell(b"hole h=2 rows=1,2,0,0", poke(rows(1, 2, 0, 0), 8, 2));
-    tell(b"hole h=2 rows=5,2,0,0", poke(rows(5, 2, 0, 0), 8, 2));
-    tell(b"hole h=2 rows=1,6,0,0", poke(rows(1, 6, 0, 0), 8, 2));
-    tell(b"hole h=2 rows=1,6,3,4", poke(rows(1, 6, 3, 4), 8, 2));
+    let cases: [(&[u8], [u32; 4]); 4] = [
+        (b"hole h=2 rows=1,2,0,0", [1, 2, 0, 0]),
+        (b"hole h=2 rows=5,2,0,0", [5, 2, 0, 0]),
+        (b"hole h=2 rows=1,6,0,0", [1, 6, 0, 0]),
+        (b"hole h=2 rows=1,6,3,4", [1, 6, 3, 4]),
+    ];
+    for (what, numbers) in cases {
+        let mut desk = rows(numbers);
+        desk.medium[8] = 2;
+        tell_start(what, desk);
+    }
 }
 
 // A row that does not read before the hole, and after it.
 fn malformed() {
-    tell(
-        b"hole rows=1,0,3,4 kind=4,3,3,3",
-        poke(rows(1, 0, 3, 4), 36, 4),
-    );
-    tell(
-        b"hole rows=1,0,3,4 kind=3,3,4,3",
-        poke(rows(1, 0, 3, 4), 100, 4),
-    );
+    let mut before = rows([1, 0, 3, 4]);
+    before.medium[36] = 4;
+    tell_start(b"hole rows=1,0,3,4 kind=4,3,3,3", before);
+    let mut after = rows([1, 0, 3, 4]);
+    after.medium[100] = 4;
+    tell_start(b"hole rows=1,0,3,4 kind=3,3,4,3", after);
 }
 
 // h = M-2: entry M, in the third row, is the last that may count.
 fn last_number() {
-    let a = poke(rows(0, 0, 255, 0), 97, 255);
-    let b = poke(a, 98, 255);
-    let c = poke(b, 99, 255);
-    tell(b"hole h=M-2 rows=0,0,M,0", poke_h(c, 2));
-    tell(b"hole h=M-1 rows=0,0,M,0", poke_h(c, 1));
+    let mut desk = rows([0, 0, u32::MAX, 0]);
+    number::put4(&mut desk.medium, 8, u32::MAX - 2);
+    tell_start(b"hole h=M-2 rows=0,0,M,0", desk);
+    number::put4(&mut desk.medium, 8, u32::MAX - 1);
+    tell_start(b"hole h=M-1 rows=0,0,M,0", desk);
 }
 
 pub fn holes() {

@@ -1,46 +1,48 @@
 // Cases 13 and 14: the last entry numbers, and rows that end a journal or are refused.
-use tried::{Desk, begin, commit, force, formatted, poke, poke_h, start, step, write};
+use tried::{SmallDesk, tell};
 
-// A medium with h = M less some, recovered.
-fn recovered(below: u8) -> Desk {
-    let made = poke_h(formatted(), below);
-    let started = start(b"case=13 start", made);
-    step(b"case=13 step", started)
+// A medium with this h, recovered.
+fn recovered(h: u32) -> SmallDesk {
+    let mut desk = SmallDesk::formatted(2, 4);
+    number::put4(&mut desk.medium, 8, h);
+    tell(b"case=13 start", desk.start());
+    tell(b"case=13 step", desk.step());
+    desk
 }
 
 // h = M.
 fn none_left() {
-    let idle = recovered(0);
-    begin(b"case=13 h=M begin", idle);
+    let mut desk = recovered(u32::MAX);
+    tell(b"case=13 h=M begin", desk.begin());
 }
 
 // h = M-1: an end fits, a write does not. Entry M is stored and recovered.
 fn one_left() {
-    let idle = recovered(1);
-    let run = begin(b"case=13 h=M-1 begin", idle);
-    let same = write(b"case=13 h=M-1 write", run, 0);
-    let again = begin(b"case=13 h=M-1 begin in run", same);
-    let made = commit(b"case=13 h=M-1 commit", again);
-    let stored = force(b"case=13 h=M-1 force", made);
-    begin(b"case=13 l=M begin", stored);
-    let started = start(b"case=13 entry M start", stored);
-    step(b"case=13 entry M step", started);
+    let mut desk = recovered(u32::MAX - 1);
+    tell(b"case=13 h=M-1 begin", desk.begin());
+    tell(b"case=13 h=M-1 write", desk.write(0, 7));
+    tell(b"case=13 h=M-1 begin in run", desk.begin());
+    tell(b"case=13 h=M-1 commit", desk.commit());
+    tell(b"case=13 h=M-1 force", desk.force());
+    tell(b"case=13 l=M begin", desk.begin());
+    tell(b"case=13 entry M start", desk.start());
+    tell(b"case=13 entry M step", desk.step());
 }
 
 // h = M-2: one write and an end fit.
 fn two_left() {
-    let idle = recovered(2);
-    let run = begin(b"case=13 h=M-2 begin", idle);
-    let again = begin(b"case=13 h=M-2 begin in run", run);
-    let full = begin(b"case=13 l=M-1 begin in run", again);
-    write(b"case=13 l=M-1 write", full, 0);
+    let mut desk = recovered(u32::MAX - 2);
+    tell(b"case=13 h=M-2 begin", desk.begin());
+    tell(b"case=13 h=M-2 begin in run", desk.begin());
+    tell(b"case=13 l=M-1 begin in run", desk.begin());
+    tell(b"case=13 l=M-1 write", desk.write(0, 7));
 }
 
 fn two_left_written() {
-    let idle = recovered(2);
-    let run = begin(b"case=13 h=M-2 begin", idle);
-    let one = write(b"case=13 h=M-2 write", run, 0);
-    commit(b"case=13 l=M-1 commit", one);
+    let mut desk = recovered(u32::MAX - 2);
+    tell(b"case=13 h=M-2 begin", desk.begin());
+    tell(b"case=13 h=M-2 write", desk.write(0, 7));
+    tell(b"case=13 l=M-1 commit", desk.commit());
 }
 
 pub fn case13() {
@@ -51,17 +53,19 @@ pub fn case13() {
 }
 
 // The row of entry 1 with a number and a kind, all else zero.
-fn row(what: &[u8], number: u8, kind: u8) {
-    let numbered = poke(formatted(), 32, number);
-    let made = poke(numbered, 36, kind);
-    let started = start(what, made);
-    step(b"case=14 step", started);
-}
-
 pub fn case14() {
-    row(b"case=14 number=1 kind=4", 1, 4);
-    row(b"case=14 number=1 kind=3", 1, 3);
-    row(b"case=14 number=1 kind=0", 1, 0);
-    row(b"case=14 number=0 kind=4", 0, 4);
-    row(b"case=14 number=2 kind=4", 2, 4);
+    let cases: [(&[u8], u8, u8); 5] = [
+        (b"case=14 number=1 kind=4", 1, 4),
+        (b"case=14 number=1 kind=3", 1, 3),
+        (b"case=14 number=1 kind=0", 1, 0),
+        (b"case=14 number=0 kind=4", 0, 4),
+        (b"case=14 number=2 kind=4", 2, 4),
+    ];
+    for (what, number, kind) in cases {
+        let mut desk = SmallDesk::formatted(2, 4);
+        desk.medium[32] = number;
+        desk.medium[36] = kind;
+        tell(what, desk.start());
+        tell(b"case=14 step", desk.step());
+    }
 }

@@ -9,9 +9,9 @@ use std::rt::HostRuntime;
 // Answers on standard output what is asked, a line each: a file name, lowest, count and, if given, the part in hand. The image is one byte longer
 // than the largest medium, so that an overlong file is seen and refused.
 pub fn answer(rt: HostRuntime, asked: &[u8]) {
-    let mut image = [0u8; 40993];
+    let mut image = [0; 40993];
     let size = read_file(rt, nth_bytes(asked, 0), &mut image);
-    let mut text = [0u8; 128];
-    let end = counter_text::screen(&mut image[0..size], asked, &mut text);
-    io::write_all(1, &text[0..end]);
+    let mut text = [0; 128];
+    let end = counter_text::screen(&mut image[..size], asked, &mut text);
+    io::write_all(1, &text[..end]);
 }

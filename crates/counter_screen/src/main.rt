@@ -5,11 +5,8 @@ use std::rt::HostRuntime;
 
 // An input that fills the buffer is too long for a file name and three numbers: it names no file.
 fn main(rt: HostRuntime) {
-    let mut input = [0u8; 8192];
+    let mut input = [0; 8192];
     let got = io::read_full(0, &mut input);
-    if got < 8192 {
-        counter_answer::answer(rt, &input[0..got]);
-    } else {
-        counter_answer::answer(rt, &input[0..0]);
-    }
+    let asked = if got < input.len() { got } else { 0 };
+    counter_answer::answer(rt, &input[..asked]);
 }

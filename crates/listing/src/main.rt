@@ -3,9 +3,9 @@
 
 // The image is one byte longer than the largest medium, so that an overlong one is seen and refused.
 fn main() {
-    let mut image = [0u8; 40993];
+    let mut image = [0; 40993];
     let got = io::read_full(0, &mut image);
     let mut text = io::large_buffer();
-    let end = listing_text::listing(&mut image[0..got], &mut text);
-    io::write_all(1, &text[0..end]);
+    let end = listing_text::listing(&mut image[..got], &mut text);
+    io::write_all(1, &text[..end]);
 }

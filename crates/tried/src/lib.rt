@@ -267,26 +267,11 @@ impl<const N: usize, const M: usize, const W: usize> Desk<N, M, W> {
     pub fn last_made(&self) -> Told {
         Told::Last(self.state.numbers.l)
     }
-
-    // A byte of the medium, or of the waiting rows, changed.
-    pub fn poke(&mut self, at: usize, byte: u8) {
-        put(&mut self.medium, at, byte);
-    }
-
-    pub fn poke_row(&mut self, at: usize, byte: u8) {
-        put(&mut self.waiting, at, byte);
-    }
 }
 
 impl Desk<2, 176, 128> {
     // Formatted and recovered.
     pub fn fresh() -> Self {
         Self::recovered(2, 4)
-    }
-}
-
-fn put(bytes: &mut [u8], at: usize, byte: u8) {
-    if let Some(place) = bytes.get_mut(at) {
-        *place = byte;
     }
 }

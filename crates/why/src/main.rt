@@ -7,7 +7,7 @@ use std::rt::HostRuntime;
 // The line that asks: the second. An input that fills its buffer may go on, so it asks for no cell.
 fn asked(input: &[u8]) -> &[u8] {
     if input.len() == 65536 {
-        return &input[0..0];
+        return &input[..0];
     }
     lines::nth_bytes(input, 1)
 }
@@ -16,9 +16,9 @@ fn asked(input: &[u8]) -> &[u8] {
 fn main(rt: HostRuntime) {
     let mut input = io::large_buffer();
     let got = io::read_full(0, &mut input);
-    let mut image = [0u8; 40993];
-    let size = files::read_file(rt, lines::nth_bytes(&input[0..got], 0), &mut image);
-    let mut text = [0u8; 128];
-    let end = why_text::why(&image[0..size], asked(&input[0..got]), &mut text);
-    io::write_all(1, &text[0..end]);
+    let mut image = [0; 40993];
+    let size = files::read_file(rt, lines::nth_bytes(&input[..got], 0), &mut image);
+    let mut text = [0; 128];
+    let end = why_text::why(&image[..size], asked(&input[..got]), &mut text);
+    io::write_all(1, &text[..end]);
 }

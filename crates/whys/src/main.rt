@@ -14,41 +14,18 @@ fn update(cell: u32, old: u64, new: u64) -> Entry {
     Entry::Update { cell, old, new }
 }
 
-// Entry h + i + 1 in its row, of four, where i is among the first so many.
-fn put(medium: &mut [u8], h: u32, i: u32, count: u32, what: Entry) {
-    if count <= i {
-        return;
-    }
-    if 100 < h {
-        return;
-    }
-    if 4 < count {
-        return;
-    }
-    let at = 32 + 32 * ((h + i) % 4) as usize;
-    if at <= medium.len() {
-        row::write_row(&mut medium[at..], h + i + 1, what);
-    }
-}
-
-// Two cells, the first with B in the table, and so many of four entries after h.
-fn made(h: u32, count: u32, a: Entry, b: Entry, c: Entry, d: Entry) -> [u8; 176] {
-    let mut medium = [0u8; 176];
+// Two cells, the first with B in the table, and four entries at most after h, each in its row of four.
+fn made(h: u8, entries: &[Entry]) -> [u8; 176] {
+    let mut medium = [0; 176];
     format(&mut medium, 2, 4);
-    number::put4(&mut medium, 8, h);
+    number::put4(&mut medium, 8, u32::from(h));
     number::put8(&mut medium, 160, B);
-    put(&mut medium, h, 0, count, a);
-    put(&mut medium, h, 1, count, b);
-    put(&mut medium, h, 2, count, c);
-    put(&mut medium, h, 3, count, d);
-    medium
-}
-
-// A byte damaged.
-fn poke(medium: &mut [u8], at: usize, byte: u8) {
-    if at < medium.len() {
-        medium[at] = byte;
+    for (i, &what) in (0u8..4).zip(entries) {
+        let before = u32::from(h) + u32::from(i);
+        let at = 32 + 32 * (before % 4) as usize;
+        row::write_row(&mut medium[at..], before + 1, what);
     }
+    medium
 }
 
 // What is said of the cell that a line asks for.
@@ -58,16 +35,13 @@ fn tell(name: &[u8], medium: &[u8], line: &[u8]) {
     io::write_all(1, name);
     io::write_all(1, b"\n");
     let end = why_text::why(medium, line, &mut text);
-    io::write_all(1, &text[0..end]);
+    io::write_all(1, &text[..end]);
 }
 
 // No entry names the cell, or a committed transaction decides.
 fn kept() {
-    let first = update(0, 0, A);
-    let other = update(1, 0, A);
-    let none = made(0, 0, first, first, first, first);
-    tell(b"no entry", &none, b"0");
-    let others = made(0, 2, other, Entry::Commit, first, first);
+    tell(b"no entry", &made(0, &[]), b"0");
+    let others = made(0, &[update(1, 0, A), Entry::Commit]);
     tell(b"another cell's entries", &others, b"0");
     tell(b"committed", &others, b"1");
 }
@@ -77,9 +51,9 @@ fn twice() {
     let first = update(0, 0, A);
     let second = update(0, A, B);
     let other = update(1, 0, A);
-    let written = made(0, 4, first, second, other, Entry::Commit);
+    let written = made(0, &[first, second, other, Entry::Commit]);
     tell(b"committed, written twice", &written, b"0");
-    let aborted = made(0, 3, first, second, Entry::Abort, first);
+    let aborted = made(0, &[first, second, Entry::Abort]);
     tell(b"aborted, written twice", &aborted, b"0");
 }
 
@@ -88,12 +62,12 @@ fn later() {
     let first = update(0, 0, A);
     let second = update(0, A, B);
     let other = update(1, 0, A);
-    let open = made(0, 3, first, Entry::Commit, second, first);
+    let open = made(0, &[first, Entry::Commit, second]);
     tell(b"unfinished", &open, b"0");
-    let more = made(0, 4, first, Entry::Commit, other, Entry::Abort);
+    let more = made(0, &[first, Entry::Commit, other, Entry::Abort]);
     tell(b"a later transaction of another cell", &more, b"0");
     tell(b"that other cell", &more, b"1");
-    let turned = made(7, 4, first, Entry::Abort, second, Entry::Commit);
+    let turned = made(7, &[first, Entry::Abort, second, Entry::Commit]);
     tell(b"rows used again", &turned, b"00");
 }
 
@@ -107,25 +81,24 @@ fn no_cell(medium: &[u8]) {
 
 // Case 5's medium with its first row lost, and with its last row lost.
 fn worn() {
-    let first = update(0, 0, A);
-    let second = update(0, A, B);
-    let mut hole = made(0, 3, first, Entry::Commit, second, first);
-    poke(&mut hole, 32, 0);
+    let entries = [update(0, 0, A), Entry::Commit, update(0, A, B)];
+    let mut hole = made(0, &entries);
+    hole[32] = 0;
     tell(b"a hole", &hole, b"0");
-    let mut ended = made(0, 3, first, Entry::Commit, second, first);
-    poke(&mut ended, 96, 0);
+    let mut ended = made(0, &entries);
+    ended[96] = 0;
     tell(b"the last row lost", &ended, b"0");
 }
 
 // Which refusal comes first.
-fn damaged(medium: &mut [u8]) {
-    poke(medium, 68, 4);
+fn damaged(medium: &mut [u8; 176]) {
+    medium[68] = 4;
     tell(b"a row that does not read", medium, b"0");
     tell(b"that, and no such cell", medium, b"2");
-    poke(medium, 12, 1);
+    medium[12] = 1;
     tell(b"a head out of rule", medium, b"0");
     tell(b"that, and no number", medium, b"");
-    tell(b"no byte at all", &medium[0..0], b"0");
+    tell(b"no byte at all", &[], b"0");
 }
 
 fn main() {
@@ -133,8 +106,7 @@ fn main() {
     twice();
     later();
     worn();
-    let first = update(0, 0, A);
-    let mut medium = made(0, 2, first, Entry::Commit, first, first);
+    let mut medium = made(0, &[update(0, 0, A), Entry::Commit]);
     no_cell(&medium);
     damaged(&mut medium);
 }
