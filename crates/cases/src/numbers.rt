@@ -5,44 +5,44 @@ use tried::{SmallDesk, tell};
 fn recovered(h: u32) -> SmallDesk {
     let mut desk = SmallDesk::formatted(2, 4);
     number::put4(&mut desk.medium, 8, h);
-    tell(b"case=13 start", desk.start());
-    tell(b"case=13 step", desk.step());
+    tell("case=13 start", desk.start());
+    tell("case=13 step", desk.step());
     desk
 }
 
 // h = M.
 fn none_left() {
     let mut desk = recovered(u32::MAX);
-    tell(b"case=13 h=M begin", desk.begin());
+    tell("case=13 h=M begin", desk.begin());
 }
 
 // h = M-1: an end fits, a write does not. Entry M is stored and recovered.
 fn one_left() {
     let mut desk = recovered(u32::MAX - 1);
-    tell(b"case=13 h=M-1 begin", desk.begin());
-    tell(b"case=13 h=M-1 write", desk.write(0, 7));
-    tell(b"case=13 h=M-1 begin in run", desk.begin());
-    tell(b"case=13 h=M-1 commit", desk.commit());
-    tell(b"case=13 h=M-1 force", desk.force());
-    tell(b"case=13 l=M begin", desk.begin());
-    tell(b"case=13 entry M start", desk.start());
-    tell(b"case=13 entry M step", desk.step());
+    tell("case=13 h=M-1 begin", desk.begin());
+    tell("case=13 h=M-1 write", desk.write(0, 7));
+    tell("case=13 h=M-1 begin in run", desk.begin());
+    tell("case=13 h=M-1 commit", desk.commit());
+    tell("case=13 h=M-1 force", desk.force());
+    tell("case=13 l=M begin", desk.begin());
+    tell("case=13 entry M start", desk.start());
+    tell("case=13 entry M step", desk.step());
 }
 
 // h = M-2: one write and an end fit.
 fn two_left() {
     let mut desk = recovered(u32::MAX - 2);
-    tell(b"case=13 h=M-2 begin", desk.begin());
-    tell(b"case=13 h=M-2 begin in run", desk.begin());
-    tell(b"case=13 l=M-1 begin in run", desk.begin());
-    tell(b"case=13 l=M-1 write", desk.write(0, 7));
+    tell("case=13 h=M-2 begin", desk.begin());
+    tell("case=13 h=M-2 begin in run", desk.begin());
+    tell("case=13 l=M-1 begin in run", desk.begin());
+    tell("case=13 l=M-1 write", desk.write(0, 7));
 }
 
 fn two_left_written() {
     let mut desk = recovered(u32::MAX - 2);
-    tell(b"case=13 h=M-2 begin", desk.begin());
-    tell(b"case=13 h=M-2 write", desk.write(0, 7));
-    tell(b"case=13 l=M-1 commit", desk.commit());
+    tell("case=13 h=M-2 begin", desk.begin());
+    tell("case=13 h=M-2 write", desk.write(0, 7));
+    tell("case=13 l=M-1 commit", desk.commit());
 }
 
 pub fn case13() {
@@ -54,18 +54,18 @@ pub fn case13() {
 
 // The row of entry 1 with a number and a kind, all else zero.
 pub fn case14() {
-    let cases: [(&[u8], u8, u8); 5] = [
-        (b"case=14 number=1 kind=4", 1, 4),
-        (b"case=14 number=1 kind=3", 1, 3),
-        (b"case=14 number=1 kind=0", 1, 0),
-        (b"case=14 number=0 kind=4", 0, 4),
-        (b"case=14 number=2 kind=4", 2, 4),
+    let cases: [(&str, u8, u8); 5] = [
+        ("case=14 number=1 kind=4", 1, 4),
+        ("case=14 number=1 kind=3", 1, 3),
+        ("case=14 number=1 kind=0", 1, 0),
+        ("case=14 number=0 kind=4", 0, 4),
+        ("case=14 number=2 kind=4", 2, 4),
     ];
     for (what, number, kind) in cases {
         let mut desk = SmallDesk::formatted(2, 4);
         desk.medium[32] = number;
         desk.medium[36] = kind;
         tell(what, desk.start());
-        tell(b"case=14 step", desk.step());
+        tell("case=14 step", desk.step());
     }
 }

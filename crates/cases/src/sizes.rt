@@ -1,19 +1,13 @@
 // Case 11, sizes of a medium, and case 12, the last cell of a table and the one after it.
 use medium::head::format;
-use tried::{Desk, SmallDesk, tell};
-
-fn key(name: &[u8], value: u64) {
-    io::write_all(1, name);
-    io::print_decimal(1, value);
-}
+use tried::{Desk, SmallDesk, say, tell};
 
 fn tell_format(cells: u32, slots: u32, medium: &mut [u8]) {
     let number = format(medium, cells, slots);
-    key(b"case=11 format cells=", u64::from(cells));
-    key(b" slots=", u64::from(slots));
-    key(b" length=", medium.len() as u64);
-    key(b" refused=", u64::from(number));
-    io::write_all(1, b"\n");
+    let length = medium.len();
+    say(format_args!(
+        "case=11 format cells={cells} slots={slots} length={length} refused={number}\n"
+    ));
 }
 
 // N, C and a length.
@@ -43,23 +37,26 @@ pub fn case11() {
 
 // A write of the last cell and of the one after it, each in a new transaction, N = 1,024 and C = 4.
 pub fn last_cell() {
-    for cell in [1023, 1024] {
+    let cases = [
+        ("case=12 cells=1024 write cell=1023", 1023),
+        ("case=12 cells=1024 write cell=1024", 1024),
+    ];
+    for (what, cell) in cases {
         let mut desk = Desk::<1024, 8352, 128>::recovered(1024, 4);
         desk.begin();
-        key(b"case=12 cells=1024 write cell=", u64::from(cell));
-        tell(b"", desk.write(cell, 7));
+        tell(what, desk.write(cell, 7));
     }
 }
 
 // N = 2: the last cell and the one after it, and abort in idle, which makes no entry.
 pub fn case12() {
     let mut desk = SmallDesk::fresh();
-    tell(b"case=12 abort in idle", desk.abort());
-    tell(b"case=12 after it", desk.last_made());
-    tell(b"case=12 begin", desk.begin());
-    tell(b"case=12 write cell=1", desk.write(1, 7));
-    tell(b"case=12 write cell=2", desk.write(2, 7));
-    tell(b"case=12 read cell=1", desk.read(1));
-    tell(b"case=12 read cell=2", desk.read(2));
-    tell(b"case=12 write-back cell=2", desk.write_back(2));
+    tell("case=12 abort in idle", desk.abort());
+    tell("case=12 after it", desk.last_made());
+    tell("case=12 begin", desk.begin());
+    tell("case=12 write cell=1", desk.write(1, 7));
+    tell("case=12 write cell=2", desk.write(2, 7));
+    tell("case=12 read cell=1", desk.read(1));
+    tell("case=12 read cell=2", desk.read(2));
+    tell("case=12 write-back cell=2", desk.write_back(2));
 }

@@ -4,7 +4,7 @@
 ghost use Rattle.std.specs.Prelude.{◌<◌};
 
 use medium::head::format;
-use tried::{Desk, SmallDesk};
+use tried::{Desk, SmallDesk, say};
 
 // N = 1,024 and C = 1,024.
 type LargestDesk = Desk<1024, 40992, 32768>;
@@ -17,17 +17,15 @@ const B: u64 = 40052 + 4294967296 * 1 + 281474976710656 * 10;
 const RELEASE_ALONE: u64 = 281474976710656 * 1;
 
 // The listing of a medium, under its name.
-fn show(name: &[u8], medium: &mut [u8]) {
+fn show(name: &str, medium: &mut [u8]) {
     let mut text = io::large_buffer();
-    io::write_all(1, b"medium=");
-    io::write_all(1, name);
-    io::write_all(1, b"\n");
+    say(format_args!("medium={name}\n"));
     let end = listing_text::listing(medium, &mut text);
     io::write_all(1, &text[..end]);
 }
 
 // The same of an image's first bytes.
-fn show_part(name: &[u8], image: &mut [u8], length: usize) {
+fn show_part(name: &str, image: &mut [u8], length: usize) {
     if let Some(medium) = image.get_mut(..length) {
         show(name, medium);
     }
@@ -71,7 +69,7 @@ fn largest<F: Fn(u32) -> u32>(place: F, value: u64) -> LargestDesk
 }
 
 // Case 5's medium with one byte damaged.
-fn damaged_five(name: &[u8], at: usize, byte: u8)
+fn damaged_five(name: &str, at: usize, byte: u8)
     requires { at < 176 }
 {
     let mut desk = case_five();
@@ -82,21 +80,21 @@ fn damaged_five(name: &[u8], at: usize, byte: u8)
 // Two cells, 176 bytes: what a release looks like, and the journal's ends.
 fn small_media() {
     let mut formatted = SmallDesk::formatted(2, 4);
-    show(b"formatted", &mut formatted.medium);
+    show("formatted", &mut formatted.medium);
     let mut five = case_five();
-    show(b"case 5", &mut five.medium);
-    show(b"case 5 again", &mut five.medium);
-    damaged_five(b"kind 4", 100, 4);
-    damaged_five(b"number 0", 96, 0);
-    damaged_five(b"hole", 32, 0);
+    show("case 5", &mut five.medium);
+    show("case 5 again", &mut five.medium);
+    damaged_five("kind 4", 100, 4);
+    damaged_five("number 0", 96, 0);
+    damaged_five("hole", 32, 0);
     let mut ended = ends();
-    show(b"ends", &mut ended.medium);
+    show("ends", &mut ended.medium);
 }
 
 // The largest medium: its listing, with the first and the last cell written by turns.
 fn largest_medium() {
     let mut desk = largest(|i| i % 2 * 1023, B);
-    show(b"largest", &mut desk.medium);
+    show("largest", &mut desk.medium);
 }
 
 // The length of the longest listing that there is but for one cell.
@@ -104,9 +102,7 @@ fn longest_listing() {
     let mut desk = largest(|i| i, u64::MAX);
     let mut text = io::large_buffer();
     let length = listing_text::listing(&mut desk.medium, &mut text);
-    io::write_all(1, b"longest=");
-    io::print_decimal(1, length as u64);
-    io::write_all(1, b"\n");
+    say(format_args!("longest={length}\n"));
 }
 
 // A medium's first bytes in an image: two cells and four rows, formatted.
@@ -115,7 +111,7 @@ fn format_small(image: &mut [u8; 40993]) {
 }
 
 // A small medium with one byte changed, and of another length.
-fn damaged(name: &[u8], at: usize, byte: u8, image: &mut [u8; 40993], length: usize)
+fn damaged(name: &str, at: usize, byte: u8, image: &mut [u8; 40993], length: usize)
     requires { at < 40993 }
 {
     format_small(image);
@@ -124,7 +120,7 @@ fn damaged(name: &[u8], at: usize, byte: u8, image: &mut [u8; 40993], length: us
 }
 
 // A medium with other numbers of cells and rows.
-fn sized(name: &[u8], cells: u32, slots: u32, image: &mut [u8; 40993], length: usize) {
+fn sized(name: &str, cells: u32, slots: u32, image: &mut [u8; 40993], length: usize) {
     format_small(image);
     number::put4(image, 0, cells);
     number::put4(image, 4, slots);
@@ -133,25 +129,25 @@ fn sized(name: &[u8], cells: u32, slots: u32, image: &mut [u8; 40993], length: u
 
 // Lengths and heads, in rule and one step out of it.
 fn lengths(image: &mut [u8; 40993]) {
-    show_part(b"empty", image, 0);
-    damaged(b"31 bytes", 32, 0, image, 31);
-    damaged(b"a head alone", 32, 0, image, 32);
-    damaged(b"a byte short", 32, 0, image, 175);
-    damaged(b"a byte long", 32, 0, image, 177);
-    damaged(b"filler", 12, 1, image, 176);
-    damaged(b"last of the filler", 31, 1, image, 176);
+    show_part("empty", image, 0);
+    damaged("31 bytes", 32, 0, image, 31);
+    damaged("a head alone", 32, 0, image, 32);
+    damaged("a byte short", 32, 0, image, 175);
+    damaged("a byte long", 32, 0, image, 177);
+    damaged("filler", 12, 1, image, 176);
+    damaged("last of the filler", 31, 1, image, 176);
 }
 
 fn sizes(image: &mut [u8; 40993]) {
-    let media: [(&[u8], u32, u32, usize); 8] = [
-        (b"0 cells", 0, 4, 160),
-        (b"1 cell", 1, 4, 168),
-        (b"1024 cells", 1024, 4, 8352),
-        (b"1025 cells", 1025, 4, 8360),
-        (b"3 slots", 2, 3, 144),
-        (b"4 slots", 2, 4, 176),
-        (b"1024 slots", 2, 1024, 32816),
-        (b"1025 slots", 2, 1025, 32848),
+    let media: [(&str, u32, u32, usize); 8] = [
+        ("0 cells", 0, 4, 160),
+        ("1 cell", 1, 4, 168),
+        ("1024 cells", 1024, 4, 8352),
+        ("1025 cells", 1025, 4, 8360),
+        ("3 slots", 2, 3, 144),
+        ("4 slots", 2, 4, 176),
+        ("1024 slots", 2, 1024, 32816),
+        ("1025 slots", 2, 1025, 32848),
     ];
     for (name, cells, slots, length) in media {
         sized(name, cells, slots, image, length);
@@ -160,8 +156,8 @@ fn sizes(image: &mut [u8; 40993]) {
 
 fn longest_lengths(image: &mut [u8; 40993]) {
     format(&mut image[..40992], 1024, 1024);
-    show_part(b"40992 bytes", image, 40992);
-    show_part(b"overlong", image, 40993);
+    show_part("40992 bytes", image, 40992);
+    show_part("overlong", image, 40993);
 }
 
 fn main() {

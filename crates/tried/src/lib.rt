@@ -6,6 +6,8 @@ use medium::head::format;
 use recovery::Step;
 use row::Fault;
 use state::{Numbers, Phase};
+use std::fmt;
+use std::fmt::Display;
 
 // What a call answered; beside a refusal's number what is wrong with a row.
 #[derive(Clone, Copy)]
@@ -59,37 +61,38 @@ impl From<Back> for Told {
     }
 }
 
-fn key(name: &[u8], value: u64) {
-    io::write_all(1, name);
-    io::print_decimal(1, value);
+impl Display for Told {
+    fn fmt<W: fmt::Write>(&self, f: &mut fmt::Formatter<W>) -> fmt::Result {
+        match *self {
+            Told::Done(value) => write!(f, "done={value}"),
+            Told::Cell(cell) => write!(f, "cell={cell}"),
+            Told::Head => write!(f, "head=1"),
+            Told::Stored => write!(f, "stored=1"),
+            Told::Clean => write!(f, "clean=1"),
+            Told::Refused { number, .. } => write!(f, "refused={number}"),
+            Told::Part { number, length } => write!(f, "refused={number} part={length}"),
+            Told::Last(entry) => write!(f, "last={entry}"),
+        }
+    }
 }
 
-// A refusal's number, and beside it what is wrong with a row.
-fn refused(number: u32, fault: Fault) {
-    key(b" refused=", u64::from(number));
-    if let Fault::At { reason, entry } = fault {
-        io::write_all(1, b" ");
+// Words printed, of at most 128 bytes.
+pub fn say<D: Display + Drop>(words: D) {
+    io::write_all(1, fmt::InlineText::<128>::of(words).as_str().as_bytes());
+}
+
+// What was tried and its answer, in one line, and beside a refusal what is wrong with a row.
+pub fn tell(what: &str, told: Told) {
+    say(format_args!("{what} {told}"));
+    if let Told::Refused {
+        fault: Fault::At { reason, entry },
+        ..
+    } = told
+    {
+        say(" ");
         faults::print(entry, reason);
     }
-}
-
-// What was tried and its answer, in one line.
-pub fn tell(what: &[u8], told: Told) {
-    io::write_all(1, what);
-    match told {
-        Told::Done(value) => key(b" done=", value),
-        Told::Cell(cell) => key(b" cell=", u64::from(cell)),
-        Told::Head => key(b" head=", 1),
-        Told::Stored => key(b" stored=", 1),
-        Told::Clean => key(b" clean=", 1),
-        Told::Refused { number, fault } => refused(number, fault),
-        Told::Part { number, length } => {
-            key(b" refused=", u64::from(number));
-            key(b" part=", length as u64);
-        }
-        Told::Last(entry) => key(b" last=", u64::from(entry)),
-    }
-    io::write_all(1, b"\n");
+    say("\n");
 }
 
 // A keeper of N cells: its medium of M bytes, its workspaces, with W bytes of waiting rows, and its state.
@@ -141,22 +144,14 @@ impl<const N: usize, const M: usize, const W: usize> Desk<N, M, W> {
     }
 
     pub fn start(&mut self) -> Told {
-        let out = State::recovery_start(
-            &self.medium,
-            &mut self.current,
-            &mut self.first,
-            &mut self.last,
-            &self.waiting,
-        );
-        self.state = out.state;
-        Told::from(out)
+        let medium = self.medium;
+        self.start_on(&medium)
     }
 
-    // A start without a medium.
-    pub fn start_empty(&mut self) -> Told {
-        let nothing = [0u8; 0];
+    // A start that is lent another medium.
+    pub fn start_on(&mut self, medium: &[u8]) -> Told {
         let out = State::recovery_start(
-            &nothing,
+            medium,
             &mut self.current,
             &mut self.first,
             &mut self.last,
@@ -217,17 +212,9 @@ impl<const N: usize, const M: usize, const W: usize> Desk<N, M, W> {
         Told::from(out)
     }
 
-    // A commit that is lent a medium's bytes for the waiting rows, and one that is lent waiting rows for the medium: copies of them.
-    pub fn commit_medium(&self) -> Told {
-        let mut medium = self.medium;
-        let mut rows = self.medium;
-        Told::from(self.state.commit(&mut medium, &mut rows))
-    }
-
-    pub fn commit_rows(&self) -> Told {
-        let mut medium = self.waiting;
-        let mut rows = self.waiting;
-        Told::from(self.state.commit(&mut medium, &mut rows))
+    // What a commit answers that is lent another medium and other waiting rows.
+    pub fn commit_on(&self, medium: &mut [u8], waiting: &mut [u8]) -> Told {
+        Told::from(self.state.commit(medium, waiting))
     }
 
     pub fn force(&mut self) -> Told {

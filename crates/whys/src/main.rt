@@ -29,10 +29,10 @@ fn made(h: u8, entries: &[Entry]) -> [u8; 176] {
 }
 
 // What is said of the cell that a line asks for.
-fn tell(name: &[u8], medium: &[u8], line: &[u8]) {
+fn tell(name: &str, medium: &[u8], line: &[u8]) {
     let mut text = [0u8; 128];
     io::write_all(1, b"asked=");
-    io::write_all(1, name);
+    io::write_all(1, name.as_bytes());
     io::write_all(1, b"\n");
     let end = why_text::why(medium, line, &mut text);
     io::write_all(1, &text[..end]);
@@ -40,10 +40,10 @@ fn tell(name: &[u8], medium: &[u8], line: &[u8]) {
 
 // No entry names the cell, or a committed transaction decides.
 fn kept() {
-    tell(b"no entry", &made(0, &[]), b"0");
+    tell("no entry", &made(0, &[]), b"0");
     let others = made(0, &[update(1, 0, A), Entry::Commit]);
-    tell(b"another cell's entries", &others, b"0");
-    tell(b"committed", &others, b"1");
+    tell("another cell's entries", &others, b"0");
+    tell("committed", &others, b"1");
 }
 
 // A cell written twice.
@@ -52,9 +52,9 @@ fn twice() {
     let second = update(0, A, B);
     let other = update(1, 0, A);
     let written = made(0, &[first, second, other, Entry::Commit]);
-    tell(b"committed, written twice", &written, b"0");
+    tell("committed, written twice", &written, b"0");
     let aborted = made(0, &[first, second, Entry::Abort]);
-    tell(b"aborted, written twice", &aborted, b"0");
+    tell("aborted, written twice", &aborted, b"0");
 }
 
 // A transaction without an end, and later transactions.
@@ -63,20 +63,20 @@ fn later() {
     let second = update(0, A, B);
     let other = update(1, 0, A);
     let open = made(0, &[first, Entry::Commit, second]);
-    tell(b"unfinished", &open, b"0");
+    tell("unfinished", &open, b"0");
     let more = made(0, &[first, Entry::Commit, other, Entry::Abort]);
-    tell(b"a later transaction of another cell", &more, b"0");
-    tell(b"that other cell", &more, b"1");
+    tell("a later transaction of another cell", &more, b"0");
+    tell("that other cell", &more, b"1");
     let turned = made(7, &[first, Entry::Abort, second, Entry::Commit]);
-    tell(b"rows used again", &turned, b"00");
+    tell("rows used again", &turned, b"00");
 }
 
 // Lines that ask for no cell.
 fn no_cell(medium: &[u8]) {
-    tell(b"no such cell", medium, b"2");
-    tell(b"no number", medium, b"0x1");
-    tell(b"no line", medium, b"");
-    tell(b"above 64 bits", medium, b"18446744073709551616");
+    tell("no such cell", medium, b"2");
+    tell("no number", medium, b"0x1");
+    tell("no line", medium, b"");
+    tell("above 64 bits", medium, b"18446744073709551616");
 }
 
 // Case 5's medium with its first row lost, and with its last row lost.
@@ -84,21 +84,21 @@ fn worn() {
     let entries = [update(0, 0, A), Entry::Commit, update(0, A, B)];
     let mut hole = made(0, &entries);
     hole[32] = 0;
-    tell(b"a hole", &hole, b"0");
+    tell("a hole", &hole, b"0");
     let mut ended = made(0, &entries);
     ended[96] = 0;
-    tell(b"the last row lost", &ended, b"0");
+    tell("the last row lost", &ended, b"0");
 }
 
 // Which refusal comes first.
 fn damaged(medium: &mut [u8; 176]) {
     medium[68] = 4;
-    tell(b"a row that does not read", medium, b"0");
-    tell(b"that, and no such cell", medium, b"2");
+    tell("a row that does not read", medium, b"0");
+    tell("that, and no such cell", medium, b"2");
     medium[12] = 1;
-    tell(b"a head out of rule", medium, b"0");
-    tell(b"that, and no number", medium, b"");
-    tell(b"no byte at all", &[], b"0");
+    tell("a head out of rule", medium, b"0");
+    tell("that, and no number", medium, b"");
+    tell("no byte at all", &[], b"0");
 }
 
 fn main() {
