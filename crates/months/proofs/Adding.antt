@@ -109,7 +109,7 @@ module _ (f : Counted → ℕ) (xs : List Counted) where
       ∙ ap (λ n. set ys i (f c) ++ replicate (64 - n) 0) (length-set ys i (f c))
       ∙ sym (set-append_left ys (replicate (64 - length ys) 0) i (f c) (omega (arith, h, same)))
 
-  places_read : (i : ℕ) → i < length xs → get_or (places ys) i 0 ≡ f (get_or xs i blank)
+  pub places_read : (i : ℕ) → i < length xs → get_or (places ys) i 0 ≡ f (get_or xs i blank)
   unfolding places
   places_read i h = get_or_append_left ys (replicate (64 - length ys) 0) 0 i (omega (arith, h, same)) ∙ get_or-map f xs i blank 0 h
 

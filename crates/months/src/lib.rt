@@ -59,6 +59,7 @@ impl Month {
     }
 
     // A cell counted; an empty one is not.
+    #[tactic(auto, using(crate::proofs::Adding::cell_empty))]
     fn add_cell(&mut self, value: u64)
         ensures { tally self.new ≡ add_cell value (tally self.old) }
     {
