@@ -19,7 +19,7 @@ use Rattle.std.proofs.lemmas.List.Sums.{prefix_len-le-length}
 use Rattle.scope.specs.Bytes.{pick}
 use Rattle.recovery.proofs.Recovering.{number-refused}
 use Rattle.values.specs.Values.{Values}
-use Rattle.months.specs.declared.Counted.{Counted}
+use Rattle.months.specs.declared.Met.{Met}
 use Rattle.months.specs.declared.Month.{Month}
 use Rattle.months.specs.Month.{more, release_of, place_from, place, places, releases_of, counts_of, Tally, tally, met_after, add_at, add_cell, add_cells, add_store, add_medium}
 
@@ -46,10 +46,10 @@ met_grows i met p = simp (le-ltb i met p)
 
 -- the place of a release
 
-abbrev pub IsOf : ℕ → Counted → Bool
+abbrev pub IsOf : ℕ → Met → Bool
 IsOf r c = eqb c.release r
 
-place_after : (ys : List ℕ) (xs : List Counted) (zs : List ℕ) (r : ℕ)
+place_after : (ys : List ℕ) (xs : List Met) (zs : List ℕ) (r : ℕ)
     → place_from (ys ++ (map (λ c. c.release) xs ++ zs)) r (length xs) (length ys) ≡ length ys + position_or_len (IsOf r) xs
 unfolding place_from
 place_after ys [] zs r = omega arith
@@ -68,7 +68,7 @@ place_after ys (x ∷ xs) zs r =
         let l : length (ys ++ x.release ∷ []) ≡ length ys + 1 = length-append ys (x.release ∷ []) in
         (λ i. place_from (sym a i) r (length xs) (sym l i)) ∙ e ∙ omega (arith, l)
 
-module _ (xs : List Counted) (r : ℕ) where
+module _ (xs : List Met) (r : ℕ) where
   place_position : place (releases_of xs) r (length xs) ≡ position_or_len (IsOf r) xs
   unfolding place places
   place_position = place_after [] xs (replicate (64 - length (map (λ c. c.release) xs)) 0) r ∙ omega arith
@@ -91,10 +91,10 @@ module _ (xs : List Counted) (r : ℕ) where
 
 -- a write at a place, and a new place
 
-abbrev pub blank : Counted
+abbrev pub blank : Met
 blank = record { release = 0; count = 0 }
 
-module _ (f : Counted → ℕ) (xs : List Counted) where
+module _ (f : Met → ℕ) (xs : List Met) where
   -- the numbers that are in use
   abbrev ys : List ℕ
   ys = map f xs
@@ -102,7 +102,7 @@ module _ (f : Counted → ℕ) (xs : List Counted) where
   same : length ys ≡ length xs
   same = length-map xs f
 
-  places_set : (i : ℕ) (c : Counted) → i < length xs → places (map f (set xs i c)) ≡ set (places ys) i (f c)
+  places_set : (i : ℕ) (c : Met) → i < length xs → places (map f (set xs i c)) ≡ set (places ys) i (f c)
   unfolding places
   places_set i c h =
       ap (λ zs. zs ++ replicate (64 - length zs) 0) (map-set f xs i c)
@@ -117,7 +117,7 @@ module _ (f : Counted → ℕ) (xs : List Counted) where
     one : 64 - length ys ≡ suc (63 - length ys)
     one = omega (arith, room, same)
 
-    places_push : (c : Counted) → places (map f (xs ++ c ∷ [])) ≡ set (places ys) (length xs) (f c)
+    places_push : (c : Met) → places (map f (xs ++ c ∷ [])) ≡ set (places ys) (length xs) (f c)
     unfolding places
     places_push c =
         let l : 64 - length (ys ++ f c ∷ []) ≡ 63 - length ys = omega (arith, length-append ys (f c ∷ [])) in
@@ -139,10 +139,10 @@ module _ (v : ℕ) (m : Month) where
   cell_empty e = simp (eq-eqb v 0 e)
 
   module _ (full : v ≡ 0 → ⊥) (r : ℕ) (qr : r ≡ release_of v) (cells : ℕ) (qc : cells ≡ more m.cells) where
-    abbrev met : List Counted
+    abbrev met : List Met
     met = m.met.items
 
-    abbrev after : List Counted → ℕ → Month
+    abbrev after : List Met → ℕ → Month
     after items others = record { stores = m.stores; refused = m.refused; cells = cells; met = record { items = items }; others = others }
 
     -- with so many met, and these at their places
@@ -155,10 +155,10 @@ module _ (v : ℕ) (m : Month) where
     at_place i q h = rw (ne_eqb v 0 full, ← qr, ← q, lt-ltb i 64 h)
 
     pub cell-counted : (i : ℕ) → position (IsOf r) met ≡ Some i → length met ≤ 64 → (n : ℕ) → n ≡ more (get_or met i blank).count
-        → (items : List Counted) → items ≡ set met i (record { release = (get_or met i blank).release; count = n }) → tally (after items m.others) ≡ add_cell v (tally m)
+        → (items : List Met) → items ≡ set met i (record { release = (get_or met i blank).release; count = n }) → tally (after items m.others) ≡ add_cell v (tally m)
     unfolding tally
     cell-counted i e few n qn items s =
-        let c : Counted = record { release = (get_or met i blank).release; count = n } in
+        let c : Met = record { release = (get_or met i blank).release; count = n } in
         let p = position-Some (IsOf r) met i blank e in
         let releases : releases_of items ≡ set (releases_of met) i r =
         ap releases_of s ∙ places_set (λ x. x.release) met i c p.0 ∙ ap (set (releases_of met) i) (eqb-true (get_or met i blank).release r p.1) in
@@ -168,11 +168,11 @@ module _ (v : ℕ) (m : Month) where
         (λ j. record { stores = m.stores; refused = m.refused; cells = qc j; met = long j; others = m.others; releases = releases j; counts = counts j })
         ∙ at_place i (place-some met r i e) (omega (arith, few, p.0))
 
-    pub cell-new : position (IsOf r) met ≡ None → length met < 64 → (items : List Counted) → items ≡ met ++ record { release = r; count = 1 } ∷ []
+    pub cell-new : position (IsOf r) met ≡ None → length met < 64 → (items : List Met) → items ≡ met ++ record { release = r; count = 1 } ∷ []
         → tally (after items m.others) ≡ add_cell v (tally m)
     unfolding tally more
     cell-new e room items s =
-        let c : Counted = record { release = r; count = 1 } in
+        let c : Met = record { release = r; count = 1 } in
         let n = length met in
         let releases : releases_of items ≡ set (releases_of met) n r = ap releases_of s ∙ places_push (λ x. x.release) met room c in
         let counts : counts_of items ≡ set (counts_of met) n (more (get_or (counts_of met) n 0)) =

@@ -6,7 +6,7 @@ use Rattle.scope.specs.Keeper.{Answer, done, refused, cell, head, clean, stored,
 use Rattle.recovered.specs.Recovered.{started}
 use Rattle.values.specs.Values.{values_of}
 use Rattle.months.specs.declared.Month.{Month}
-use Rattle.months.specs.declared.Counted.{Counted}
+use Rattle.months.specs.declared.Met.{Met}
 
 -- one more, in 64 bits
 unfoldable pub more : ℕ → ℕ
@@ -39,10 +39,10 @@ unfoldable pub places : List ℕ → List ℕ
 places xs = xs ++ replicate (64 - length xs) 0
 
 -- the releases that were met, and how many cells each has, side by side
-abbrev pub releases_of : List Counted → List ℕ
+abbrev pub releases_of : List Met → List ℕ
 releases_of met = places (map (λ c. c.release) met)
 
-abbrev pub counts_of : List Counted → List ℕ
+abbrev pub counts_of : List Met → List ℕ
 counts_of met = places (map (λ c. c.count) met)
 
 unfoldable pub tally : Month → Tally

@@ -10,7 +10,7 @@ use values::values;
 
 // A release that was met, as one number, and how many cells have it.
 #[derive(Clone, Copy, Default)]
-pub struct Counted {
+pub struct Met {
     pub release: u32,
     pub count: u64,
 }
@@ -21,11 +21,11 @@ pub struct Month {
     pub stores: u64,
     pub refused: u64,
     pub cells: u64,
-    pub met: ArrayVec<Counted, 64>,
+    pub met: ArrayVec<Met, 64>,
     pub others: u64,
 }
 
-// A cell's release as one number, the major before the minor.
+// A cell's release as one number, the major before the minor. `counter::release` is it in 64 bits: one line each, and a month has no counter to stand on.
 #[tactic(auto, unfolding(crate::specs::Month::release_of))]
 fn release_of(value: u64) -> u32
     ensures { result ≡ release_of value }
@@ -50,7 +50,7 @@ impl Month {
     }
 
     // Where a release stands among those met.
-    fn place_of(&self, release: u32) -> Option<usize>
+    pub fn place_of(&self, release: u32) -> Option<usize>
         ensures { result ≡ position (λ c. c.release == release) self.now.met.items }
     {
         self.met
@@ -74,7 +74,7 @@ impl Month {
                 counted.count = counted.count.saturating_add(1);
             }
             None if self.met.is_full() => self.others = self.others.saturating_add(1),
-            None => self.met.push(Counted { release, count: 1 }),
+            None => self.met.push(Met { release, count: 1 }),
         }
     }
 
