@@ -16,9 +16,9 @@ use Rattle.lines.specs.Lines.{is_digit, all_digits, number_from, decimal_from, w
 -- one digit more
 
 module _ (n b : ℕ) where
-  pub below-digits : b < 48 → None ≡ with_digit n b
+  pub below_digits : b < 48 → None ≡ with_digit n b
   unfolding with_digit decimal_from all_digits is_digit
-  below-digits h = simp (lt-leb 48 b h)
+  below_digits h = simp (lt-leb 48 b h)
 
   pub above_digits : 57 < b → None ≡ with_digit n b
   unfolding with_digit decimal_from all_digits is_digit

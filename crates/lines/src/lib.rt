@@ -32,6 +32,7 @@ fn newline(s: &[u8], at: usize) -> usize
 }
 
 // Where the line ends that begins at a place and has its newline at another: before the CR of a CR LF.
+#[tactic(auto, using(crate::proofs::Lined::end_cr))]
 fn line_end(s: &[u8], at: usize, newline: usize) -> usize
     requires { (at ≤ newline) × (newline ≤ length s.now) }
     ensures { result ≡ line_end at newline s.now }
@@ -91,6 +92,7 @@ pub fn nth_bytes(s: &[u8], k: usize) -> &[u8]
 }
 
 // A number with one digit more, where it stays within 64 bits.
+#[tactic(auto, using(crate::proofs::Numbered::more_digit, crate::proofs::Numbered::past_64, crate::proofs::Numbered::below_digits, crate::proofs::Numbered::above_digits))]
 fn with_digit(n: u64, byte: u8) -> Option<u64>
     ensures { result ≡ with_digit n byte }
 {
