@@ -67,7 +67,5 @@ fn main(rt: HostRuntime) {
             break;
         }
     }
-    let mut text = io::buffer();
-    let end = month_text::put_month(&month, &mut text);
-    io::write_all(1, &text[..end]);
+    io::write_all(1, month_text::put_month(&month).bytes());
 }
