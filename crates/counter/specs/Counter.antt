@@ -1,5 +1,5 @@
 -- THE COUNTER SCREEN (ticket 1): for a control unit, a span of cells, the cell to order; and for a part number in hand, what it is.
-use Rattle.std.specs.Prelude.{ℕ, zero, suc, ◌+◌, ◌*◌, ◌/◌, ◌%◌, Bool, not, ◌&&◌, List, ltb, leb, eqb, get_or}
+use Rattle.std.specs.Prelude.{ℕ, zero, suc, ◌+◌, ◌*◌, ◌/◌, ◌%◌, Bool, not, ◌&&◌, List, Option, Some, None, ltb, leb, eqb, get_or}
 use Rattle.scope.specs.Bytes.{pick, number_at}
 use Rattle.scope.specs.Keeper.{is_head_ok}
 use Rattle.scope.specs.Recovery.{table_of}
@@ -7,10 +7,7 @@ use Rattle.counter.specs.declared.Order.{Order}
 use Rattle.counter.specs.declared.Order.TheVariants as order
 use Rattle.counter.specs.declared.Hand.{Hand}
 use Rattle.counter.specs.declared.Hand.TheVariants as hand
-use Rattle.counter.specs.declared.Sought.{Sought}
-use Rattle.counter.specs.declared.Sought.TheVariants as sought
 use Rattle.counter.specs.declared.Best.{Best}
-use Rattle.counter.specs.declared.Best.TheVariants as best
 
 -- a cell's value: part number (4 bytes), release major (2) and minor (2)
 unfoldable pub part_number : ℕ → ℕ
@@ -27,25 +24,28 @@ unfoldable pub release : ℕ → ℕ
 release v = 65536 * major v + minor v
 
 -- which cells count: those that are not empty, or of these the ones that list a part ("empty cells list none")
-unfoldable pub counts : Sought → ℕ → Bool
-counts sought.Any v = not (eqb v 0)
-counts (sought.Part p) v = not (eqb v 0) && eqb (part_number v) p
+unfoldable pub counts : Option ℕ → ℕ → Bool
+counts None v = not (eqb v 0)
+counts (Some p) v = not (eqb v 0) && eqb (part_number v) p
+
+abbrev pub best_cell : ℕ → ℕ → Option Best
+best_cell c v = Some (record { cell = c; value = v })
 
 -- one cell more that counts: "of greatest release, .. the lowest among equals"
-unfoldable pub better : ℕ → ℕ → Best → Best
-better c v (best.Cell b w) = pick (ltb (release w) (release v)) (best.Cell c v) (best.Cell b w)
-better c v best.Nothing = best.Cell c v
+unfoldable pub better : ℕ → ℕ → Option Best → Option Best
+better c v (Some b) = pick (ltb (release b.value) (release v)) (best_cell c v) (Some b)
+better c v None = best_cell c v
 
-unfoldable pub best_with_cell : Sought → ℕ → ℕ → Best → Best
+unfoldable pub best_with_cell : Option ℕ → ℕ → ℕ → Option Best → Option Best
 best_with_cell s c v b = pick (counts s v) (better c v b) b
 
 -- the best of `count` cells of a table from cell c on, by rising number, after the best so far
-unfoldable pub best_from : Sought → List ℕ → ℕ → ℕ → Best → Best
+unfoldable pub best_from : Option ℕ → List ℕ → ℕ → ℕ → Option Best → Option Best
 best_from s t c zero b = b
 best_from s t c (suc count) b = best_from s t (c + 1) count (best_with_cell s c (get_or t c 0) b)
 
-unfoldable pub best_in : Sought → List ℕ → ℕ → ℕ → Best
-best_in s t lowest count = best_from s t lowest count best.Nothing
+unfoldable pub best_in : Option ℕ → List ℕ → ℕ → ℕ → Option Best
+best_in s t lowest count = best_from s t lowest count None
 
 -- the table on a medium, as its head says
 unfoldable pub table_in : List ℕ → List ℕ
@@ -64,29 +64,29 @@ hand_unless zero a = a
 hand_unless (suc n) a = hand.Refused (suc n)
 
 -- 12, no part: every cell of the span is empty
-abbrev pub ordered : Best → Order
-ordered (best.Cell c v) = order.Cell c v
-ordered best.Nothing = order.Refused 12
+abbrev pub ordered : Option Best → Order
+ordered (Some b) = order.Cell b.cell b.value
+ordered None = order.Refused 12
 
 -- THE CELL TO ORDER in a table, and on a medium
 unfoldable pub order_in : List ℕ → ℕ → ℕ → Order
-order_in t lowest count = ordered (best_in sought.Any t lowest count)
+order_in t lowest count = ordered (best_in None t lowest count)
 
 unfoldable pub cell_to_order : List ℕ → ℕ → ℕ → Order
 cell_to_order m lowest count = order_unless (span_refusal m lowest count) (order_in (table_in m) lowest count)
 
 -- a part that is not the one to order, whose value is v: by the best of the cells that list it
-unfoldable pub against : ℕ → Best → Hand
-against v (best.Cell c w) = pick (ltb (release w) (release v)) hand.Older hand.Equal
-against v best.Nothing = hand.NotListed
+unfoldable pub against : ℕ → Option Best → Hand
+against v (Some b) = pick (ltb (release b.value) (release v)) hand.Older hand.Equal
+against v None = hand.NotListed
 
-abbrev pub handed : ℕ → Best → Best → Hand
-handed p (best.Cell c v) listed = pick (eqb (part_number v) p) hand.ThatOne (against v listed)
-handed p best.Nothing listed = hand.Refused 12
+abbrev pub handed : ℕ → Option Best → Option Best → Hand
+handed p (Some b) listed = pick (eqb (part_number b.value) p) hand.ThatOne (against b.value listed)
+handed p None listed = hand.Refused 12
 
 -- WHAT A PART IN HAND IS: "that one, its equal in release, older or not listed; a part in several cells counts by its greatest release"
 unfoldable pub hand_in : List ℕ → ℕ → ℕ → ℕ → Hand
-hand_in t lowest count p = handed p (best_in sought.Any t lowest count) (best_in (sought.Part p) t lowest count)
+hand_in t lowest count p = handed p (best_in None t lowest count) (best_in (Some p) t lowest count)
 
 unfoldable pub part_in_hand : List ℕ → ℕ → ℕ → ℕ → Hand
 part_in_hand m lowest count p = hand_unless (span_refusal m lowest count) (hand_in (table_in m) lowest count p)

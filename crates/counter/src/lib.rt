@@ -2,9 +2,9 @@
 // lent, copies nothing and changes nothing, and says what the bytes say: the caller recovers the medium first.
 #![tactic(auto)]
 
-ghost use Rattle.std.specs.Prelude.{◌≡◌, ◌+◌, ◌*◌, ◌≤◌, length};
+ghost use Rattle.std.specs.Prelude.{◌≡◌, ◌+◌, ◌*◌, ◌≤◌, Some, length};
 ghost use Rattle.scope.specs.Keeper.{cells_of};
-ghost use Rattle.counter.specs.Counter.{release, counts, better, best_with_cell, best_in, span_refusal, cell_to_order, against, part_in_hand};
+ghost use Rattle.counter.specs.Counter.{part_number, release, counts, better, best_in, span_refusal, cell_to_order, against, part_in_hand};
 
 use medium::head::{table_view, table_view_number};
 use medium::layout::index;
@@ -33,76 +33,60 @@ pub enum Hand {
     Refused(u32),
 }
 
-// Which cells count: all that are not empty, or those that list a part.
+// A cell of a span that counts, with its value.
 #[derive(Clone, Copy)]
-enum Sought {
-    Any,
-    Part(u64),
+struct Best {
+    cell: u32,
+    value: u64,
 }
 
-// The best cell so far, with its value.
-#[derive(Clone, Copy)]
-enum Best {
-    Cell(u32, u64),
-    Nothing,
+// The part that a value lists.
+#[tactic(auto, unfolding(crate::specs::Counter::part_number))]
+fn part_number(value: u64) -> u64
+    ensures { result ≡ part_number value }
+{
+    value % 4294967296
 }
 
 // The release as one number, major before minor.
+#[tactic(auto, unfolding(crate::specs::Counter::release, crate::specs::Counter::major, crate::specs::Counter::minor))]
 fn release(value: u64) -> u64
     ensures { result ≡ release value }
 {
     65536 * (value / 4294967296 % 65536) + value / 281474976710656 % 65536
 }
 
-// Whether a cell with this value counts.
-#[tactic(auto, using(crate::proofs::Spans::counts_empty))]
-fn counts(sought: Sought, value: u64) -> bool
+// Whether a cell with this value counts: it is not empty and, where a part is sought, lists that.
+#[tactic(auto, unfolding(crate::specs::Counter::counts))]
+fn counts(sought: Option<u64>, value: u64) -> bool
     ensures { result ≡ counts sought value }
 {
-    if value == 0 {
-        return false;
-    }
-    match sought {
-        Sought::Any => true,
-        Sought::Part(part) => value % 4294967296 == part,
-    }
+    value != 0 && sought.is_none_or(|part| part_number(value) == part)
 }
 
 // One cell more that counts: it is the best now if its release is above that of the best before.
-fn better(best: Best, cell: u32, value: u64) -> Best
-    ensures { result ≡ better cell value best }
+#[tactic(auto, unfolding(crate::specs::Counter::better))]
+fn better(best: Option<Best>, next: Best) -> Best
+    ensures { Some result ≡ better next.cell next.value best }
 {
-    let Best::Cell(_, other) = best else {
-        return Best::Cell(cell, value);
-    };
-    if release(other) < release(value) {
-        return Best::Cell(cell, value);
+    match best {
+        Some(best) if release(next.value) <= release(best.value) => best,
+        _ => next,
     }
-    best
 }
 
-// One cell more.
-fn with_cell(sought: Sought, best: Best, cell: u32, value: u64) -> Best
-    ensures { result ≡ best_with_cell sought cell value best }
+// The best cell of a unit's span of the table, by rising number. Goes once over the span.
+fn best_in(table: &[u8], unit: ControlUnit, sought: Option<u64>) -> Option<Best>
+    requires bytes { 8 * (unit.lowest + unit.count) ≤ length table.now }
+    requires cells { unit.lowest + unit.count ≤ 1024 }
+    ensures { result ≡ best_in sought (cells_of (unit.lowest + unit.count) table.now) unit.lowest unit.count }
 {
-    let counted = counts(sought, value);
-    if counted {} else {
-        return best;
-    }
-    better(best, cell, value)
-}
-
-// The best cell of a span of the table, by rising number. Goes once over the span.
-fn best_in(table: &[u8], lowest: u32, count: u32, sought: Sought) -> Best
-    requires { (8 * (lowest + count) ≤ length table.now) × (lowest + count ≤ 1024) }
-    ensures { result ≡ best_in sought (cells_of (lowest + count) table.now) lowest count }
-{
-    let end = lowest + count;
-    let mut best = Best::Nothing;
-    let mut i = lowest;
-    while i < end {
-        best = with_cell(sought, best, i, number::get8(table, 8 * index(i)));
-        i += 1;
+    let mut best = None;
+    for cell in unit.lowest..unit.lowest + unit.count {
+        let value = number::get8(table, 8 * index(cell));
+        if counts(sought, value) {
+            best = Some(better(best, Best { cell, value }));
+        }
     }
     best
 }
@@ -132,24 +116,22 @@ pub fn cell_to_order(medium: &[u8], unit: ControlUnit) -> Order
     if no != 0 {
         return Order::Refused(no);
     }
-    let best = best_in(table_view(medium), unit.lowest, unit.count, Sought::Any);
-    match best {
-        Best::Cell(cell, value) => Order::Cell(cell, value),
-        Best::Nothing => Order::Refused(12),
+    match best_in(table_view(medium), unit, None) {
+        Some(best) => Order::Cell(best.cell, best.value),
+        None => Order::Refused(12),
     }
 }
 
 // A part that is not the one to order, by the best of the cells that list it.
-fn against(value: u64, listed: Best) -> Hand
+#[tactic(auto, unfolding(crate::specs::Counter::against))]
+fn against(value: u64, listed: Option<Best>) -> Hand
     ensures { result ≡ against value listed }
 {
-    let Best::Cell(_, own) = listed else {
-        return Hand::NotListed;
-    };
-    if release(own) < release(value) {
-        return Hand::Older;
+    match listed {
+        None => Hand::NotListed,
+        Some(own) if release(own.value) < release(value) => Hand::Older,
+        Some(_) => Hand::Equal,
     }
-    Hand::Equal
 }
 
 // What a part in hand is for a unit: the one to order, its equal in release, older, or not listed; a part in several cells of the span counts
@@ -162,13 +144,11 @@ pub fn part_in_hand(medium: &[u8], unit: ControlUnit, part: u64) -> Hand
         return Hand::Refused(no);
     }
     let table = table_view(medium);
-    let best = best_in(table, unit.lowest, unit.count, Sought::Any);
-    let Best::Cell(_, value) = best else {
+    let Some(best) = best_in(table, unit, None) else {
         return Hand::Refused(12);
     };
-    if value % 4294967296 == part {
+    if part_number(best.value) == part {
         return Hand::ThatOne;
     }
-    let listed = best_in(table, unit.lowest, unit.count, Sought::Part(part));
-    against(value, listed)
+    against(best.value, best_in(table, unit, Some(part)))
 }

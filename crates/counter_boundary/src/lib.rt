@@ -22,7 +22,7 @@ fn order_value(order: Order) -> u64
     ensures { result ≡ order_value order }
 {
     match order {
-        Order::Cell(cell, _) => cell as u64,
+        Order::Cell(cell, _) => u64::from(cell),
         Order::Refused(_) => 0,
     }
 }
@@ -31,10 +31,7 @@ fn hand_number(hand: Hand) -> u32
     ensures { result ≡ hand_number hand }
 {
     match hand {
-        Hand::ThatOne => 0,
-        Hand::Equal => 0,
-        Hand::Older => 0,
-        Hand::NotListed => 0,
+        Hand::ThatOne | Hand::Equal | Hand::Older | Hand::NotListed => 0,
         Hand::Refused(no) => no,
     }
 }

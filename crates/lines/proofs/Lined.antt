@@ -2,49 +2,53 @@
 use Prim.Native.Nat.{ℕ, zero, suc, ◌+◌, ◌-◌, ◌≤◌, ◌<◌}
 use mathlib.Core.Path.{◌≡◌, refl, sym, ap, subst, ◌∙◌}
 use mathlib.Core.Bool.{Bool, true, false, ◌&&◌}
-use mathlib.Core.List.{List, [], ◌∷◌}
+use mathlib.Core.List.{List}
 use native.Mathlib.Omega.{arith}
-use native.Mathlib.Numerals.{add-one}
 use borrow.Author.Tests.{lt-ltb, le-ltb, eq-eqb, ne_eqb, ltb-true, ltb-false}
 use lib.Dec.{ltb, eqb}
 use lib.ListN.{length, get_or, drop, length-drop}
-use lib.Seq.{drop-cons}
 use Rattle.scope.specs.Bytes.{pick}
+use Rattle.std.specs.List.{position}
+use Rattle.std.proofs.lemmas.Option.{cond_some}
+use Rattle.std.proofs.Common.{tests}
+use Rattle.std.proofs.lemmas.List.Sums.{prefix_len-le-length}
+use Rattle.std.specs.Prelude.{Option, Some, None}
 use Rattle.lines.specs.declared.Line.{Line}
-use Rattle.lines.specs.declared.Line.TheVariants as line
 use Rattle.lines.specs.Lines.{before, newline, line_end, next_line, line_at, and_next, nth_from, nth_line}
 
 -- the search for a newline
 
-module _ (s : List ℕ) (i : ℕ) where
-  newline-at : i < length s → newline i s ≡ i + pick (eqb (get_or s i 0) 10) 0 (1 + before (drop (i + 1) s))
-  unfolding newline before
-  newline-at h = rw (add-one, drop-cons s i 0)
-
-  pub newline_here : i < length s → get_or s i 0 ≡ 10 → i ≡ newline i s
-  newline_here h e = let z : i ≡ i + 0 = omega arith in z ∙ sym (newline-at h ∙ ap (λ t. i + pick t 0 (1 + before (drop (i + 1) s))) (eq-eqb _ _ e))
-
-  pub newline-next : i < length s → (get_or s i 0 ≡ 10 → ⊥) → newline i s ≡ newline (i + 1) s
-  unfolding newline
-  newline-next h e =
-      let z : i + (1 + before (drop (i + 1) s)) ≡ i + 1 + before (drop (i + 1) s) = omega arith in
-      newline-at h ∙ ap (λ t. i + pick t 0 (1 + before (drop (i + 1) s))) (ne_eqb _ _ e) ∙ z
-
 before_fits : (s : List ℕ) → before s ≤ length s
 unfolding before
-before_fits [] = omega arith
-before_fits (b ∷ s) = go (eqb b 10) (before_fits s)
-  where
-    go : (t : Bool) → before s ≤ length s → pick t 0 (1 + before s) ≤ suc (length s)
-    go true h = omega arith
-    go false h = omega arith
+before_fits s = prefix_len-le-length _ s
 
 newline_fits : (s : List ℕ) (at : ℕ) → at ≤ length s → (at ≤ newline at s) × (newline at s ≤ length s)
 unfolding newline
 newline_fits s at h = (omega arith, omega (arith, before_fits (drop at s), length-drop at s))
 
-pub newline-end : (s : List ℕ) (i : ℕ) → i ≡ length s → i ≡ newline i s
-newline-end s i e = let h = newline_fits s i (omega arith) in omega arith
+-- what the search from a place on gives
+module _ (s x : List ℕ) (at : ℕ) (h : at ≤ length s) (rest : x ≡ drop at s) where
+  abbrev searched : Option ℕ
+  searched = position (λ b. eqb b 10) x
+
+  newline-of : newline at s ≡ at + before x
+  unfolding newline
+  newline-of = ap (λ y. at + before y) (sym rest)
+
+  pub newline_found : (i : ℕ) → searched ≡ Some i → (at + i ≡ newline at s) × (at ≤ at + i) × (at + i ≤ length s)
+  unfolding before
+  newline_found i e =
+      let f = newline_fits s at h in
+      let g = cond_some (ltb (before x) (length x)) (before x) i e in
+      omega (arith, g.1, newline-of)
+
+  pub newline_not_found : searched ≡ None → (length s ≡ newline at s) × (at ≤ length s) × (length s ≤ length s)
+  unfolding before
+  newline_not_found e =
+      let f = newline_fits s at h in
+      let l : length x ≡ length s - at = ap length rest ∙ length-drop at s in
+      let g : length x ≤ before x = grind (arith, tests) in
+      omega (arith, newline-of)
 
 -- the ends of a line
 
@@ -92,16 +96,19 @@ module _ (s : List ℕ) (nl : ℕ) where
 
 -- the line at a place
 
+abbrev line : ℕ → ℕ → ℕ → Line
+line from to next = record { from = from; to = to; next = next }
+
 module _ (s : List ℕ) (at : ℕ) where
-  pub no_line : length s ≤ at → line.Nothing ≡ line_at at s
+  pub no_line : length s ≤ at → None ≡ line_at at s
   unfolding line_at
   no_line h = simp (le-ltb at (length s) h)
 
-  pub line_here : at < length s → (nl to next : ℕ) → nl ≡ newline at s → to ≡ line_end at nl s → next ≡ next_line nl s → line.At at to next ≡ line_at at s
+  pub line_here : at < length s → (nl to next : ℕ) → nl ≡ newline at s → to ≡ line_end at nl s → next ≡ next_line nl s → Some (line at to next) ≡ line_at at s
   unfolding line_at
   line_here h nl to next e f g =
-      (λ i. line.At at ((f ∙ ap (λ x. line_end at x s) e) i) ((g ∙ ap (λ x. next_line x s) e) i))
-      ∙ sym (ap (λ t. pick t (line.At at (line_end at (newline at s) s) (next_line (newline at s) s)) line.Nothing) (lt-ltb at (length s) h))
+      (λ i. Some (line at ((f ∙ ap (λ x. line_end at x s) e) i) ((g ∙ ap (λ x. next_line x s) e) i)))
+      ∙ sym (ap (λ t. pick t (Some (line at (line_end at (newline at s) s) (next_line (newline at s) s))) None) (lt-ltb at (length s) h))
 
 -- A LINE LIES WITHIN THE BYTES, and the next one begins after it
 pub record Within (s : List ℕ) (from to next : ℕ) : Type 0 where
@@ -111,16 +118,16 @@ pub record Within (s : List ℕ) (from to next : ℕ) : Type 0 where
   pub rises : from < next
   pub stays : next ≤ length s
 
-abbrev pub LineWithin : List ℕ → Line → Type 0
-LineWithin s (line.At from to next) = Within s from to next
-LineWithin s line.Nothing = Unit {0}
+abbrev pub LineWithin : List ℕ → Option Line → Type 0
+LineWithin s (Some line) = Within s line.from line.to line.next
+LineWithin s None = Unit {0}
 
 pub line_within : (s : List ℕ) (at : ℕ) → LineWithin s (line_at at s)
 unfolding line_at next_line
 line_within s at = go (ltb at (length s)) refl (ltb (newline at s) (length s)) refl
   where
     go : (t : Bool) → ltb at (length s) ≡ t → (u : Bool) → ltb (newline at s) (length s) ≡ u
-        → LineWithin s (pick t (line.At at (line_end at (newline at s) s) (pick u (newline at s + 1) (newline at s))) line.Nothing)
+        → LineWithin s (pick t (Some (line at (line_end at (newline at s) s) (pick u (newline at s + 1) (newline at s)))) None)
     go false e u f = tt
     go true e true f =
         let h = ltb-true at (length s) e in
@@ -138,17 +145,17 @@ line_within s at = go (ltb at (length s)) refl (ltb (newline at s) (length s)) r
 -- lines counted
 
 module _ (s : List ℕ) where
-  pub nth_none : (k at : ℕ) → 0 < k → line_at at s ≡ line.Nothing → line.Nothing ≡ nth_from k at s
+  pub nth_none : (k at : ℕ) → 0 < k → line_at at s ≡ None → None ≡ nth_from k at s
   unfolding nth_from
   nth_none zero at h e = absurd (omega arith)
   nth_none (suc k) at h e = sym (ap (λ x. and_next x (λ next. nth_from k next s)) e)
 
-  pub nth_next : (k at from to next : ℕ) → 0 < k → line_at at s ≡ line.At from to next → nth_from k at s ≡ nth_from (k - 1) next s
+  pub nth_next : (k at : ℕ) (line : Line) → 0 < k → line_at at s ≡ Some line → nth_from k at s ≡ nth_from (k - 1) line.next s
   unfolding nth_from
-  nth_next zero at from to next h e = absurd (omega arith)
-  nth_next (suc k) at from to next h e =
+  nth_next zero at line h e = absurd (omega arith)
+  nth_next (suc k) at line h e =
       let z : k ≡ suc k - 1 = omega arith in
-      ap (λ x. and_next x (λ next. nth_from k next s)) e ∙ ap (λ j. nth_from j next s) z
+      ap (λ x. and_next x (λ next. nth_from k next s)) e ∙ ap (λ j. nth_from j line.next s) z
 
   pub nth_last : (k at : ℕ) → k ≡ 0 → line_at at s ≡ nth_from k at s
   unfolding nth_from
@@ -160,13 +167,13 @@ module _ (s : List ℕ) where
   nth_from_within zero at = line_within s at
   nth_from_within (suc k) at = go (line_at at s) (nth_from_within k)
     where
-      go : (x : Line) → ((next : ℕ) → LineWithin s (nth_from k next s)) → LineWithin s (and_next x (λ next. nth_from k next s))
-      go (line.At from to next) h = h next
-      go line.Nothing h = tt
+      go : (x : Option Line) → ((next : ℕ) → LineWithin s (nth_from k next s)) → LineWithin s (and_next x (λ next. nth_from k next s))
+      go (Some line) h = h line.next
+      go None h = tt
 
   pub nth_within : (k : ℕ) → LineWithin s (nth_line k s)
   unfolding nth_line
   nth_within k = nth_from_within k 0
 
-  pub is_within : (k : ℕ) {from to next : ℕ} → nth_line k s ≡ line.At from to next → Within s from to next
-  is_within k e = subst (LineWithin s) e (nth_within k)
+  pub is_within : (k : ℕ) (line : Line) → nth_line k s ≡ Some line → Within s line.from line.to line.next
+  is_within k line e = subst (LineWithin s) e (nth_within k)

@@ -1,6 +1,6 @@
 -- Where a release stands: its place is in range and holds it, and one more place changes no place before it. And sums and counts with one more.
 use Prim.Native.Nat.{ℕ, zero, suc, ◌+◌, ◌≤◌, ◌<◌}
-use mathlib.Core.Path.{◌≡◌, refl, ap, ◌∙◌}
+use mathlib.Core.Path.{◌≡◌, refl, sym, ap, ◌∙◌}
 use mathlib.Core.Bool.{Bool, true, false}
 use mathlib.Core.List.{List, [], ◌∷◌, ◌++◌}
 use native.Mathlib.Omega.{arith}
@@ -57,6 +57,21 @@ module _ (rs : List ℕ) (r : ℕ) where
   pub place_finds : (met k : ℕ) → k < met → get_or rs k 0 ≡ r → place rs r met < met
   unfolding place
   place_finds met k q e = omega (arith, from_finds met 0 k (omega arith) (omega (arith, q)) e)
+
+  from_first : (left i j : ℕ) → i ≤ j → j < i + left → ((k : ℕ) → i ≤ k → k < j → get_or rs k 0 ≡ r → ⊥) → get_or rs j 0 ≡ r → j ≡ place_from rs r left i
+  unfolding place_from
+  from_first zero i j p q h e = absurd (omega (arith, p, q))
+  from_first (suc left) i j p q h e = go (eqb (get_or rs i 0) r) refl (eqb i j) refl (λ n. from_first left (i + 1) j (omega (arith, p, n)) (omega (arith, q)) (λ k a l. h k (omega (arith, a)) l) e)
+    where
+      go : (b : Bool) → eqb (get_or rs i 0) r ≡ b → (d : Bool) → eqb i j ≡ d → ((i ≡ j → ⊥) → j ≡ place_from rs r left (i + 1)) → j ≡ pick b i (place_from rs r left (i + 1))
+      go true z true y ih = sym (eqb-true i j y)
+      go true z false y ih = absurd (h i (omega arith) (omega (arith, p, eqb-false i j y)) (eqb-true (get_or rs i 0) r z))
+      go false z d y ih = ih (λ n. eqb-false (get_or rs i 0) r z (ap (λ x. get_or rs x 0) n ∙ e))
+
+  -- .. the first of these
+  pub place_first : (met j : ℕ) → j < met → ((k : ℕ) → k < j → get_or rs k 0 ≡ r → ⊥) → get_or rs j 0 ≡ r → j ≡ place rs r met
+  unfolding place
+  place_first met j q h e = from_first met 0 j (omega arith) (omega (arith, q)) (λ k a l. h k l) e
 
   -- one more place
   abbrev Next : ℕ → ℕ → ℕ

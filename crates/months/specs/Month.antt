@@ -1,11 +1,12 @@
 -- A month's end (ticket 13): "recovers each medium in its own memory and prints `stores` (files named), `refused` (of these), `cells` (non-empty, in the
 -- rest) .. The first 64 releases met, by file and then by cell, have counts; cells of later ones go to others."
-use Rattle.std.specs.Prelude.{ℕ, zero, suc, ◌+◌, ◌*◌, ◌/◌, ◌%◌, ◌≤◌, ◌≡◌, List, [], ◌∷◌, ltb, eqb, length, get_or, set, replicate}
+use Rattle.std.specs.Prelude.{ℕ, zero, suc, ◌+◌, ◌*◌, ◌/◌, ◌%◌, ◌-◌, List, [], ◌∷◌, ◌++◌, ltb, eqb, length, get_or, set, map, replicate}
 use Rattle.scope.specs.Bytes.{pick}
 use Rattle.scope.specs.Keeper.{Answer, done, refused, cell, head, clean, stored, part}
 use Rattle.recovered.specs.Recovered.{started}
 use Rattle.values.specs.Values.{values_of}
 use Rattle.months.specs.declared.Month.{Month}
+use Rattle.months.specs.declared.Met.{Met}
 
 -- one more, in 64 bits
 unfoldable pub more : ℕ → ℕ
@@ -33,9 +34,28 @@ pub record Tally : Type 0 where
   pub releases : List ℕ
   pub counts : List ℕ
 
-unfoldable pub tally : Month → List ℕ → List ℕ → Tally
-tally m releases counts =
-    record { stores = m.stores; refused = m.refused; cells = m.cells; met = m.met; others = m.others; releases = releases; counts = counts }
+-- 64 places, of which the first ones hold these
+unfoldable pub places : List ℕ → List ℕ
+places xs = xs ++ replicate (64 - length xs) 0
+
+-- the releases that were met, and how many cells each has, side by side
+abbrev pub releases_of : List Met → List ℕ
+releases_of met = places (map (λ c. c.release) met)
+
+abbrev pub counts_of : List Met → List ℕ
+counts_of met = places (map (λ c. c.count) met)
+
+unfoldable pub tally : Month → Tally
+tally m =
+    record {
+      stores = m.stores;
+      refused = m.refused;
+      cells = m.cells;
+      met = length m.met.items;
+      others = m.others;
+      releases = releases_of m.met.items;
+      counts = counts_of m.met.items;
+    }
 
 -- before any file
 unfoldable pub untallied : Tally
@@ -101,14 +121,3 @@ add_started (part b) values t = t
 -- A FILE'S BYTES: its recovered cells, or one more refused
 unfoldable pub add_medium : List ℕ → Tally → Tally
 add_medium m t = add_started (started m).answer (values_of m) t
-
--- 64 releases and counts, of which no more are in use
-pub record Sized (month : Month) (releases counts : List ℕ) : Type 0 where
-  pub releases64 : length releases ≡ 64
-  pub counts64 : length counts ≡ 64
-  pub met64 : month.met ≤ 64
-
--- what a function leaves is this tally, and has its sizes
-pub record Tallies (month : Month) (releases counts : List ℕ) (t : Tally) : Type 0 where
-  pub same : tally month releases counts ≡ t
-  pub sized : Sized month releases counts

@@ -1,20 +1,12 @@
 -- The text of a listing ("The listing program"): numbers in decimal, lines key=value, in ASCII.
-use Rattle.std.specs.Prelude.{ℕ, zero, suc, ◌+◌, ◌/◌, ◌%◌, ◌≡◌, List, [], ◌∷◌, ◌++◌, ltb, eqb, length}
-use Rattle.scope.specs.Bytes.{pick, put}
+use Rattle.std.specs.Prelude.{ℕ, zero, suc, ◌+◌, ◌/◌, ◌%◌, List, [], ◌∷◌, ◌++◌, ltb, eqb, decimal}
+use Rattle.scope.specs.Bytes.{pick}
 use Rattle.scope.specs.Keeper.{Answer, done, refused, cell, head, clean, stored, part}
 
--- the decimal digits of n, the highest first, no zero in front, at most so many
+-- the decimal digits of n, the highest first, no zero in front, at most so many; `digits_of_32` and `digits_of_64` say that they are the text of a number
 unfoldable pub digits : ℕ → ℕ → List ℕ
 digits zero n = []
 digits (suc left) n = pick (ltb n 10) ((48 + n) ∷ []) (digits left (n / 10) ++ ((48 + n % 10) ∷ []))
-
--- a number of 32 bits has ten digits at most
-unfoldable pub decimal : ℕ → List ℕ
-decimal n = digits 10 n
-
--- and one of 64 bits twenty
-unfoldable pub decimal64 : ℕ → List ℕ
-decimal64 n = digits 20 n
 
 -- the keys, with their '='
 abbrev pub cells_key : List ℕ
@@ -41,9 +33,6 @@ refused_key = 114 ∷ 101 ∷ 102 ∷ 117 ∷ 115 ∷ 101 ∷ 100 ∷ 61 ∷ []
 -- key, number, line end
 unfoldable pub line : List ℕ → ℕ → List ℕ
 line key n = key ++ decimal n ++ (10 ∷ [])
-
-unfoldable pub line64 : List ℕ → ℕ → List ℕ
-line64 key n = key ++ decimal64 n ++ (10 ∷ [])
 
 -- a refusal prints its number only
 abbrev pub or_refused : Answer → List ℕ → List ℕ
@@ -73,8 +62,3 @@ cells_text i (v ∷ vs) = cell_text i v ++ cells_text (i + 1) vs
 -- N, C, h and the table
 unfoldable pub table_text : ℕ → ℕ → ℕ → List ℕ → List ℕ
 table_text n c h table = line cells_key n ++ line slots_key c ++ line head_key h ++ cells_text 0 table
-
--- x was written into t from `at` on, all else as it was, and ends at r
-pub record Wrote (t : List ℕ) (at : ℕ) (x t' : List ℕ) (r : ℕ) : Type 0 where
-  pub bytes : t' ≡ put t at x
-  pub end : r ≡ at + length x

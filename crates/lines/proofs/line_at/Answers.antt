@@ -7,4 +7,4 @@ pub returns-then-s-at : goal.returns-then-s-at
 returns-then-s-at c = no_line _ _ (omega arith)
 
 pub returns : goal.returns
-returns c = line_here _ _ (omega arith) _ _ _ c.newline-end.ensures.0 c.line_end-to.ensures c.next_line-next.ensures
+returns c = line_here _ _ (omega arith) _ _ _ c.newline-newline.ensures.0 c.line_end.ensures c.next_line.ensures

@@ -1,14 +1,15 @@
--- `lines::newline` meets its contract. Invariant: the search from here finds what the search from the start finds.
-use native.Mathlib.Omega.{arith}
-use mathlib.Core.Path.{sym, ◌∙◌}
-use Rattle.lines.proofs.Lined.{newline_here, newline-next, newline-end}
+-- `lines::newline` meets its contract. What the search from a place on gives.
+use Rattle.std.proofs.Common.{sym, arith, length-drop}
+use lib.Seq.{take_all}
+use Rattle.lines.proofs.Lined.{newline_found, newline_not_found}
 use Rattle.lines.proofs.newline.Goals as goal
 
-pub returns-then-s-i-eq10 : goal.returns-then-s-i-eq10
-returns-then-s-i-eq10 c = let l = c.loop-i in (newline_here _ l.i (omega arith) (omega arith) ∙ sym l.invariant.2, omega arith, omega arith)
+pub returns-in-Some : goal.returns-in-Some
+returns-in-Some c =
+    let s = c.args.s.now in
+    newline_found s _ c.args.at c.requires (take_all _ _ (omega (arith, length-drop c.args.at s))) _ (sym c.in-Some.ensures)
 
-pub loop-i-preserved : goal.loop-i-preserved
-loop-i-preserved c = let l = c.loop-i in (omega arith, omega arith, l.invariant.2 ∙ newline-next _ l.i (omega arith) c.if-s-i-eq10.false)
-
-pub returns : goal.returns
-returns c = let l = c.loop-i in (newline-end _ l.i (omega arith) ∙ sym l.invariant.2, omega arith, omega arith)
+pub returns-in-None : goal.returns-in-None
+returns-in-None c =
+    let s = c.args.s.now in
+    newline_not_found s _ c.args.at c.requires (take_all _ _ (omega (arith, length-drop c.args.at s))) (sym c.in-None.ensures)
