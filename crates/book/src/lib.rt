@@ -6,6 +6,8 @@ pub mod image;
 
 ghost use Rattle.std.specs.Prelude.{◌≡◌, ◌+◌, ◌*◌, ◌/◌, ◌%◌, ◌<◌, ◌≤◌, ◌↔◌, IsTrue, Some, None, min};
 
+use std::fmt;
+
 use arrayvec::ArrayVec;
 use image::MOST_CELLS;
 
@@ -29,6 +31,12 @@ impl Tally {
         if self.number < MOST {
             self.number += 1;
         }
+    }
+}
+
+impl fmt::Display for Tally {
+    fn fmt<W: fmt::Write>(&self, f: &mut fmt::Formatter<W>) -> fmt::Result {
+        write!(f, "{}", self.number)
     }
 }
 
