@@ -1,130 +1,106 @@
-// Media as bytes: copying one or a part of it, and how many of head, rows and cells differ between two.
-ghost use Rattle.std.specs.Prelude.{◌<◌, ◌≤◌};
+// Media as bytes: what one has, and what differs between two.
+ghost use Rattle.std.specs.Prelude.{◌≡◌, ◌+◌, ◌*◌, ◌<◌, ◌≤◌, min, length};
 
-pub fn least(a: usize, most: usize) -> usize
-    ensures { result ≤ most }
+// The most cells and rows that a made-up medium has, and the bytes of one with as many.
+pub const MOST_CELLS: usize = 32;
+
+pub const MOST_ROWS: usize = 32;
+
+pub const MOST_BYTES: usize = 1312;
+
+// A medium of N cells and C rows, at the front of `bytes`: the head, the rows, the cells.
+#[derive(Clone, Copy)]
+pub struct Image {
+    pub bytes: [u8; MOST_BYTES],
+    pub cells: u32,
+    pub slots: u32,
+}
+
+impl Image {
+    // A medium of zeros.
+    pub fn blank(cells: u32, slots: u32) -> Self {
+        Image {
+            bytes: [0; MOST_BYTES],
+            cells,
+            slots,
+        }
+    }
+
+    // How many cells, rows and bytes it has.
+    pub fn cell_count(&self) -> usize
+        ensures { result ≡ min self.now.cells 32 }
+    {
+        (self.cells as usize).min(MOST_CELLS)
+    }
+
+    pub fn row_count(&self) -> usize
+        ensures { result ≡ min self.now.slots 32 }
+    {
+        (self.slots as usize).min(MOST_ROWS)
+    }
+
+    pub fn size(&self) -> usize
+        ensures { result ≡ 32 + 32 * min self.now.slots 32 + 8 * min self.now.cells 32 }
+    {
+        32 + 32 * self.row_count() + 8 * self.cell_count()
+    }
+
+    pub fn medium(&self) -> &[u8] {
+        &self.bytes[..self.size()]
+    }
+
+    // How many of head, rows and cells differ.
+    pub fn stores_since(&self, before: &Image) -> usize {
+        let cells = 32 + 32 * self.row_count();
+        let size = self.size();
+        let head = usize::from(self.bytes[..32] != before.bytes[..32]);
+        let rows = differing(&self.bytes[32..cells], &before.bytes[32..cells], 32);
+        head + rows + differing(&self.bytes[cells..size], &before.bytes[cells..size], 8)
+    }
+
+    // Whether all that differs lies within `size` bytes from `at` on.
+    pub fn differs_within(&self, before: &Image, at: usize, size: usize) -> bool {
+        let mut pairs = self.bytes.iter().zip(before.bytes.iter()).enumerate();
+        pairs.all(|(i, (now, then))| now == then || at <= i && i - at < size)
+    }
+
+    // A cell's value on the medium; 0 of a medium whose head is out of rule.
+    pub fn cell(&self, cell: u32) -> u64 {
+        let table = medium::head::table_view(self.medium());
+        let at = 8 * cell as usize;
+        if table.len() < at + 8 {
+            return 0;
+        }
+        number::get8(table, at)
+    }
+
+    // Where the row after entry n's begins.
+    pub fn row_after(&self, n: u32) -> usize
+        ensures { result ≤ 1056 }
+    {
+        32 + 32 * (n.checked_rem(self.slots).unwrap_or(0) as usize).min(MOST_ROWS)
+    }
+
+    // The row after entry n's brought from another medium.
+    pub fn bring_row(&mut self, from: &Image, n: u32) {
+        let at = self.row_after(n);
+        self.bytes[at..at + 32].copy_from_slice(&from.bytes[at..at + 32]);
+    }
+
+    // The first bytes of the row after entry n's zeroed.
+    pub fn lose_row(&mut self, n: u32, bytes: usize) {
+        let at = self.row_after(n);
+        self.bytes[at..at + bytes.min(32)].fill(0);
+    }
+}
+
+// How many pieces of this size differ.
+fn differing(a: &[u8], b: &[u8], size: usize) -> usize
+    requires { 0 < size }
+    ensures { result ≤ length a.now }
 {
-    if a < most {
-        return a;
-    }
-    most
-}
-
-pub fn byte(s: &[u8], i: usize) -> u8 {
-    if i < s.len() {
-        return s[i];
-    }
-    0
-}
-
-fn put(s: &mut [u8], i: usize, x: u8) {
-    if i < s.len() {
-        s[i] = x;
-    }
-}
-
-pub fn copy(from: &[u8], to: &mut [u8]) {
-    bring(from, to, 0, from.len());
-}
-
-// The bytes from `at` on, to before `end`, copied to the same place.
-pub fn bring(from: &[u8], to: &mut [u8], at: usize, end: usize) {
-    let mut i = at;
-    while i < end {
-        put(to, i, byte(from, i));
-        i += 1;
-    }
-}
-
-// The bytes from `at` on zeroed, to before `end`.
-pub fn wipe(s: &mut [u8], at: usize, end: usize) {
-    let mut i = at;
-    while i < end {
-        put(s, i, 0);
-        i += 1;
-    }
-}
-
-// The head is 0; the rows are 1 to C, the cells follow.
-fn unit(i: usize, slots: usize) -> usize {
-    if i < 32 {
-        return 0;
-    }
-    if 1024 < slots {
-        return 0;
-    }
-    let rows = 32 + 32 * slots;
-    if i < rows {
-        return i / 32;
-    }
-    1 + slots + (i - rows) / 8
-}
-
-// The first byte from `from` on that differs, or the length.
-fn differs_at(a: &[u8], b: &[u8], from: usize) -> usize {
-    let n = a.len();
-    let mut i = from;
-    while i < n {
-        if byte(a, i) != byte(b, i) {
-            return i;
-        }
-        i += 1;
-    }
-    n
-}
-
-// The last byte that differs, or 0.
-fn differs_last(a: &[u8], b: &[u8]) -> usize {
-    let mut i = a.len();
-    while 0 < i {
-        i -= 1;
-        if byte(a, i) != byte(b, i) {
-            return i;
-        }
-    }
-    0
-}
-
-// How many of head, rows and cells differ: 0, 1, or 2 for any more.
-pub fn stores_between(a: &[u8], b: &[u8], slots: u32) -> u64 {
-    if a.len() != b.len() {
-        return 2;
-    }
-    let from = differs_at(a, b, 0);
-    if a.len() <= from {
-        return 0;
-    }
-    let to = differs_last(a, b);
-    if unit(from, slots as usize) == unit(to, slots as usize) {
-        return 1;
-    }
-    2
-}
-
-// Whether all that differs lies within `size` bytes from `at` on.
-pub fn within(a: &[u8], b: &[u8], at: usize, size: usize) -> bool {
-    let from = differs_at(a, b, 0);
-    if a.len() <= from {
-        return true;
-    }
-    if from < at {
-        return false;
-    }
-    let to = differs_last(a, b);
-    if to < at {
-        return false;
-    }
-    to - at < size
-}
-
-// A cell's value on the medium; 0 of a medium whose head is out of rule.
-pub fn cell_value(image: &[u8], cell: usize) -> u64 {
-    let table = medium::head::table_view(image);
-    if 1024 < cell {
-        return 0;
-    }
-    if table.len() < 8 * cell + 8 {
-        return 0;
-    }
-    number::get8(table, 8 * cell)
+    a.chunks(size)
+        .zip(b.chunks(size))
+        .filter(|(x, y)| x != y)
+        .count()
 }

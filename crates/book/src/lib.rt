@@ -1,269 +1,233 @@
-// What the plug knows of a history without asking the keeper: one lent array of numbers. Every place is total: what lies outside the array
-// reads as 0 and is not written, so that a proof of a caller has nothing to show.
-//
-//   place       what
-//   0           the generator's last number
-//   1 to 8      tallies: what was tried, and what differed
-//   9           how many writes of this life are listed
-//   10, 11, 12  tallies: rows lost before others, last rows lost, and histories in which something differed
-//   13, 14      a call that is likely next and the cell of the last write, each with 1 added; 0 for none
-//   32 + cell   the table as the stored transactions left it
-//   64 + i      write i's cell
-//   192 + i     write i's value
-//   320 + i     write i's tag: OPEN, the number that its commit answered, or GONE (aborted, or stored and in the table)
-//
-// A transaction counts as stored when the row of the number that its commit answered is; nothing here reads a row.
+// What the plug knows of a history without asking the keeper: the table as the stored transactions left it, and the writes of this life. A
+// transaction counts as stored when the row of the number that its commit answered is; nothing here reads a row.
 #![tactic(auto)]
 
 pub mod image;
 
-ghost use Rattle.std.specs.Prelude.{◌<◌, ◌≤◌};
+ghost use Rattle.std.specs.Prelude.{◌≡◌, ◌+◌, ◌*◌, ◌/◌, ◌%◌, ◌<◌, ◌≤◌, ◌↔◌, IsTrue, Some, None, min};
 
-pub const SEED: usize = 0;
+use std::fmt;
 
-pub const HISTORIES: usize = 1;
+use arrayvec::ArrayVec;
+use image::MOST_CELLS;
 
-pub const CALLS: usize = 2;
+// What a tally counts to, and stays at.
+pub const MOST: u64 = 1_000_000_000;
 
-pub const REFUSED: usize = 3;
+// How many writes of one life are listed.
+const MOST_WRITES: usize = 128;
 
-pub const STORES: usize = 4;
-
-pub const CUTS: usize = 5;
-
-pub const RECOVERIES: usize = 6;
-
-pub const RESTORED: usize = 7;
-
-pub const DIFFERENCES: usize = 8;
-
-const USED: usize = 9;
-
-pub const HOLES: usize = 10;
-
-pub const ENDS: usize = 11;
-
-pub const STRUCK: usize = 12;
-
-pub const LIKELY: usize = 13;
-
-const WRITTEN: usize = 14;
-
-const TABLE: usize = 32;
-
-const CELL: usize = 64;
-
-const VALUE: usize = 192;
-
-const TAG: usize = 320;
-
-pub const SIZE: usize = 448;
-
-const OPEN: u64 = 1099511627777;
-
-const GONE: u64 = 1099511627776;
-
-pub fn get(book: &[u64], at: usize) -> u64 {
-    if at < book.len() {
-        return book[at];
-    }
-    0
+// How often something was tried, or differed.
+#[derive(Clone, Copy, Debug, Default, PartialEq, Eq)]
+pub struct Tally {
+    pub number: u64,
 }
 
-pub fn set(book: &mut [u64], at: usize, value: u64) {
-    if at < book.len() {
-        book[at] = value;
-    }
-}
-
-// One more in a tally.
-pub fn count(book: &mut [u64], at: usize) {
-    let n = get(book, at);
-    if n < 1000000000 {
-        set(book, at, n + 1);
-    }
-}
-
-// A difference, where a check failed.
-pub fn judge(book: &mut [u64], ok: bool) {
-    if ok {} else {
-        count(book, DIFFERENCES);
-    }
-}
-
-// The next number of a linear congruential generator, below 32,768.
-pub fn draw(book: &mut [u64]) -> u32
-    ensures { result < 32768 }
-{
-    let x = get(book, SEED) % 2147483648;
-    let y = (x * 1103515245 + 12345) % 2147483648;
-    set(book, SEED, y);
-    (y / 65536) as u32
-}
-
-// A drawn number below n; 0 below 0.
-pub fn below(book: &mut [u64], n: u32) -> u32 {
-    let x = draw(book);
-    if n == 0 {
-        return 0;
-    }
-    x % n
-}
-
-// A cell's value: one of few parts, so that values come again, and any release.
-pub fn value(book: &mut [u64]) -> u64 {
-    let part = below(book, 5) as u64;
-    let major = below(book, 3) as u64;
-    let minor = below(book, 12) as u64;
-    part % 5 + 4294967296 * (major % 3) + 281474976710656 * (minor % 12)
-}
-
-// Where the i-th of a group stands.
-fn place(group: usize, i: usize) -> usize {
-    if i < 128 {
-        if group < 448 {
-            return group + i;
+impl Tally {
+    // One more.
+    pub fn count(&mut self)
+        ensures { self.old.number ≤ MOST → self.new.number ≡ min (self.old.number + 1) MOST }
+    {
+        if self.number < MOST {
+            self.number += 1;
         }
     }
-    SIZE
 }
 
-// A cell of the table of stored transactions.
-pub fn stored(book: &[u64], cell: usize) -> u64 {
-    if cell < 32 {
-        return get(book, place(TABLE, cell));
-    }
-    0
-}
-
-fn used(book: &[u64]) -> usize
-    ensures { result ≤ 128 }
-{
-    let n = get(book, USED);
-    if n < 128 {
-        return n as usize;
-    }
-    128
-}
-
-// A write of the open transaction, accepted.
-pub fn wrote(book: &mut [u64], cell: u32, value: u64) {
-    let i = used(book);
-    set(book, place(CELL, i), cell as u64);
-    set(book, place(VALUE, i), value);
-    set(book, place(TAG, i), OPEN);
-    set(book, WRITTEN, cell as u64 + 1);
-    count(book, USED);
-}
-
-// The cell of the last write, or the one that was drawn.
-pub fn last_written(book: &[u64], drawn: u32) -> u32 {
-    let cell = get(book, WRITTEN);
-    if cell == 0 {
-        return drawn;
-    }
-    if 1024 < cell {
-        return drawn;
-    }
-    cell as u32 - 1
-}
-
-fn retag_one(book: &mut [u64], i: usize, from: u64, to: u64) {
-    if get(book, place(TAG, i)) == from {
-        set(book, place(TAG, i), to);
+impl fmt::Display for Tally {
+    fn fmt<W: fmt::Write>(&self, f: &mut fmt::Formatter<W>) -> fmt::Result {
+        write!(f, "{}", self.number)
     }
 }
 
-fn retag(book: &mut [u64], from: u64, to: u64) {
-    let n = used(book);
-    let mut i = 0;
-    while i < n {
-        retag_one(book, i, from, to);
-        i += 1;
-    }
+// What came of a write: its transaction is open, or its commit answered this number; gone is what was aborted, or is stored and in the table.
+#[derive(Clone, Copy, Debug, Default, PartialEq, Eq)]
+enum Fate {
+    Open,
+    Committed(u64),
+    #[default]
+    Gone,
 }
 
-// The open transaction's commit answered n.
-pub fn committed(book: &mut [u64], n: u64) {
-    retag(book, OPEN, n);
+#[derive(Clone, Copy, Debug, Default, PartialEq, Eq)]
+struct Write {
+    cell: u32,
+    value: u64,
+    fate: Fate,
 }
 
-// The open transaction was aborted.
-pub fn aborted(book: &mut [u64]) {
-    retag(book, OPEN, GONE);
+// A call where a keeper that goes wrong would show it.
+#[derive(Clone, Copy, Debug, PartialEq, Eq)]
+pub enum Likely {
+    WriteBack,
+    Abort,
+    Cut,
 }
 
-fn keep_one(book: &mut [u64], i: usize, n: u64) {
-    if get(book, place(TAG, i)) == n {
-        let cell = get(book, place(CELL, i)) % 32;
-        let value = get(book, place(VALUE, i));
-        set(book, place(TABLE, cell as usize), value);
-        set(book, place(TAG, i), GONE);
-    }
+#[derive(Drop)]
+pub struct Book {
+    // The generator's last number.
+    pub seed: u32,
+    pub histories: Tally,
+    pub calls: Tally,
+    pub refused: Tally,
+    pub stores: Tally,
+    pub cuts: Tally,
+    pub recoveries: Tally,
+    pub restored: Tally,
+    // Rows lost before others, and last rows lost.
+    pub holes: Tally,
+    pub ends: Tally,
+    // Histories in which something differed, and how much differed.
+    pub struck: Tally,
+    pub differences: Tally,
+    // The call that is likely next, and the cell of the last write.
+    pub likely: Option<Likely>,
+    pub written: Option<u32>,
+    table: [u64; MOST_CELLS],
+    writes: ArrayVec<Write, MOST_WRITES>,
 }
 
-// Entry n's row is stored: a transaction whose commit had answered n now counts, and the table has its writes.
-pub fn forced(book: &mut [u64], n: u64) {
-    let m = used(book);
-    let mut i = 0;
-    while i < m {
-        keep_one(book, i, n);
-        i += 1;
-    }
-}
-
-fn later(book: &[u64], i: usize, cell: u32, value: u64) -> u64 {
-    if get(book, place(TAG, i)) == GONE {
-        return value;
-    }
-    if get(book, place(CELL, i)) == cell as u64 {
-        return get(book, place(VALUE, i));
-    }
-    value
-}
-
-// What a read of the cell is to answer: the last write of it that is not gone, else the table's value.
-pub fn current(book: &[u64], cell: u32) -> u64 {
-    let n = used(book);
-    let mut value = stored(book, cell as usize);
-    let mut i = 0;
-    while i < n {
-        value = later(book, i, cell, value);
-        i += 1;
-    }
-    value
-}
-
-// Whether a write of this life named the cell.
-pub fn named(book: &[u64], cell: u32) -> bool {
-    let n = used(book);
-    let mut i = 0;
-    while i < n {
-        if get(book, place(CELL, i)) == cell as u64 {
-            return true;
+impl Book {
+    // No history yet.
+    pub fn new(seed: u32) -> Self
+        ensures seed { result.seed ≡ seed }
+        ensures differences { result.differences.number ≡ 0 }
+    {
+        Book {
+            seed,
+            histories: Tally::default(),
+            calls: Tally::default(),
+            refused: Tally::default(),
+            stores: Tally::default(),
+            cuts: Tally::default(),
+            recoveries: Tally::default(),
+            restored: Tally::default(),
+            holes: Tally::default(),
+            ends: Tally::default(),
+            struck: Tally::default(),
+            differences: Tally::default(),
+            likely: None,
+            written: None,
+            table: [0; MOST_CELLS],
+            writes: ArrayVec::new(),
         }
-        i += 1;
     }
-    false
-}
 
-// Power was lost and recovery has ended: what was not stored is forgotten.
-pub fn forget(book: &mut [u64]) {
-    set(book, USED, 0);
-}
+    // A difference, where a check failed.
+    pub fn judge(&mut self, ok: bool) {
+        if !ok {
+            self.differences.count();
+        }
+    }
 
-fn clear_one(book: &mut [u64], i: usize) {
-    set(book, place(TABLE, i), 0);
-}
+    // The next number of a linear congruential generator, below 32,768.
+    pub fn draw(&mut self) -> u32
+        ensures seed { self.new.seed ≡ (self.old.seed * 1103515245 + 12345) % 2147483648 }
+        ensures drawn { result ≡ self.new.seed / 65536 }
+        ensures below { result < 32768 }
+    {
+        let next = (u64::from(self.seed) * 1_103_515_245 + 12_345) % 2_147_483_648;
+        self.seed = next as u32;
+        self.seed / 65_536
+    }
 
-// A new medium: an empty table and no writes.
-pub fn fresh(book: &mut [u64]) {
-    forget(book);
-    set(book, LIKELY, 0);
-    set(book, WRITTEN, 0);
-    let mut i: usize = 0;
-    while i < 32 {
-        clear_one(book, i);
-        i += 1;
+    // A drawn number below n; 0 below 0.
+    pub fn below(&mut self, n: u32) -> u32
+        ensures { 0 < n → result < n }
+    {
+        let drawn = self.draw();
+        drawn.checked_rem(n).unwrap_or(0)
+    }
+
+    // Heads or tails.
+    pub fn flip(&mut self) -> bool {
+        self.below(2) == 0
+    }
+
+    // A cell's value: one of few parts, so that values come again, and any release.
+    pub fn value(&mut self) -> u64 {
+        let part = self.below(5);
+        let major = self.below(3);
+        let minor = self.below(12);
+        u64::from(part) + 4_294_967_296 * u64::from(major) + 281_474_976_710_656 * u64::from(minor)
+    }
+
+    // A cell of the table of stored transactions; 0 of a cell that no medium has.
+    pub fn stored(&self, cell: u32) -> u64 {
+        self.table.get(cell as usize).copied().unwrap_or(0)
+    }
+
+    // A write of the open transaction, accepted.
+    pub fn wrote(&mut self, cell: u32, value: u64) {
+        self.written = Some(cell);
+        if !self.writes.is_full() {
+            self.writes.push(Write {
+                cell,
+                value,
+                fate: Fate::Open,
+            });
+        }
+    }
+
+    fn end_open(&mut self, fate: Fate) {
+        for write in self.writes.iter_mut() {
+            if write.fate == Fate::Open {
+                write.fate = fate;
+            }
+        }
+    }
+
+    // The open transaction's commit answered n.
+    pub fn committed(&mut self, n: u64) {
+        self.end_open(Fate::Committed(n));
+    }
+
+    // The open transaction was aborted.
+    pub fn aborted(&mut self) {
+        self.end_open(Fate::Gone);
+    }
+
+    // Entry n's row is stored: a transaction whose commit had answered n now counts, and the table has its writes.
+    pub fn forced(&mut self, n: u64) {
+        for write in self.writes.iter_mut() {
+            if write.fate == Fate::Committed(n) {
+                if let Some(value) = self.table.get_mut(write.cell as usize) {
+                    *value = write.value;
+                }
+                write.fate = Fate::Gone;
+            }
+        }
+    }
+
+    // What a read of the cell is to answer: the last write of it that is not gone, else the table's value.
+    pub fn current(&self, cell: u32) -> u64 {
+        let last = self
+            .writes
+            .iter()
+            .rev()
+            .find(|write| write.cell == cell && write.fate != Fate::Gone);
+        last.map_or(self.stored(cell), |write| write.value)
+    }
+
+    // Whether a write of this life named the cell.
+    pub fn named(&self, cell: u32) -> bool {
+        self.writes.iter().any(|write| write.cell == cell)
+    }
+
+    // Power was lost and recovery has ended: what was not stored is forgotten.
+    pub fn forget(&mut self) {
+        self.writes.clear();
+    }
+
+    // A new medium: an empty table and no writes.
+    pub fn fresh(&mut self)
+        ensures likely { self.new.likely ≡ None }
+        ensures written { self.new.written ≡ None }
+    {
+        self.forget();
+        self.likely = None;
+        self.written = None;
+        self.table = [0; MOST_CELLS];
     }
 }

@@ -3,11 +3,12 @@ use Prim.Native.Nat.{ℕ, zero, suc, ◌+◌, ◌*◌, ◌-◌, ◌%◌, ◌≤�
 use mathlib.Core.Path.{◌≡◌, refl, sym, ap, subst, ◌∙◌}
 use mathlib.Core.Bool.{Bool, true, false, ◌&&◌}
 use mathlib.Core.List.{List}
-use mathlib.Core.Option.{Option, none, some}
+use mathlib.Core.Option.{Option as Maybe, none, some}
 use native.Mathlib.Nat.{mod-lt, zero-add}
 use native.Mathlib.Omega.{arith}
 use borrow.Author.Tests.{eqb-true, leb-false, lt-ltb}
 use lib.Dec.{ltb}
+use Rattle.std.specs.Prelude.{Option, Some, None}
 use lib.ListN.{length, take, drop, get_or}
 use Rattle.scope.specs.Bytes.{pick, bytes_of, put}
 use Rattle.scope.specs.Keeper.{Keeper, Outcome, done, refused, head, clean, stored, idle, value_of, medium_length, row_at, cell_at, waiting_row, head_bytes, with_state, with_medium, made_to, dropped_to, store_cell, store_head}
@@ -22,10 +23,11 @@ use Rattle.scope.proofs.StepCall.{differing-some}
 use Rattle.scope.proofs.HeadStores.{head#}
 use Rattle.scope.proofs.Sound.{Sound, sound_facts, fit_sound, fit_lent}
 use Rattle.scope.proofs.Frames.{frame}
-use Rattle.console.specs.Made.{Place, nowhere, head_place, cell_place, force_place, back_place, step_place, place_of}
+use Rattle.console.specs.declared.Place.{Place}
+use Rattle.console.specs.Made.{head_place, cell_place, force_place, back_place, step_place, place_of, part_brought}
 
-abbrev pub Brings : Place → Keeper → Outcome → Type 0
-Brings p k o = o.keeper.medium ≡ put k.medium p.at (take p.size (drop p.at o.keeper.medium))
+abbrev pub Brings : Option Place → Keeper → Outcome → Type 0
+Brings p k o = o.keeper.medium ≡ part_brought p o.keeper.medium k.medium
 
 -- a store of n bytes is brought by the n bytes at its place
 part-put : (m v : List ℕ) (at n : ℕ) → length v ≡ n → at + n ≤ length m → put m at v ≡ put m at (take n (drop at (put m at v)))
@@ -34,24 +36,23 @@ part-put m v at n e h =
     (ap (put m at) (sym (put_same m v at (omega arith))))
 
 -- calls that store nothing
-pub brings_begin : (k : Keeper) → Brings nowhere k (act Begin k)
-unfolding put with_medium
+pub brings_begin : (k : Keeper) → Brings None k (act Begin k)
+unfolding with_medium
 brings_begin k = ap (λ (o : Outcome). o.keeper.medium) (frame Begin k k)
 
-pub brings_abort : (k : Keeper) → Brings nowhere k (act Abort k)
-unfolding put with_medium
+pub brings_abort : (k : Keeper) → Brings None k (act Abort k)
+unfolding with_medium
 brings_abort k = ap (λ (o : Outcome). o.keeper.medium) (frame Abort k k)
 
-pub brings_write : (c v : ℕ) (k : Keeper) → Brings nowhere k (act (Write c v) k)
-unfolding put with_medium
+pub brings_write : (c v : ℕ) (k : Keeper) → Brings None k (act (Write c v) k)
+unfolding with_medium
 brings_write c v k = ap (λ (o : Outcome). o.keeper.medium) (frame (Write c v) k k)
 
-pub brings_read : (c : ℕ) (k : Keeper) → Brings nowhere k (act (Read c) k)
-unfolding put
+pub brings_read : (c : ℕ) (k : Keeper) → Brings None k (act (Read c) k)
 brings_read c k = ap (λ (o : Outcome). o.keeper.medium) (frame (Read c) k k)
 
-pub brings_start : (k : Keeper) → Brings nowhere k (act RecoveryStart k)
-unfolding put act
+pub brings_start : (k : Keeper) → Brings None k (act RecoveryStart k)
+unfolding act
 brings_start k = go (refusal RecoveryStart k)
   where
     go : (i : ℕ) → (unless i (performed RecoveryStart k) (unchanged RecoveryStart k)).keeper.medium ≡ k.medium
@@ -66,15 +67,14 @@ module _ (k : Keeper) where
   abbrev C : ℕ
   C = k.state.slots
 
-  unless-brings : (a : Call) (o : Outcome) → ((n : ℕ) → place_of a C (refused n) ≡ nowhere)
+  unless-brings : (a : Call) (o : Outcome) → ((n : ℕ) → place_of a C (refused n) ≡ None)
       → (refusal a k ≡ 0 → Brings (place_of a C o.answer) k o)
       → Brings (place_of a C (unless (refusal a k) o k).answer) k (unless (refusal a k) o k)
-  unfolding put
   unless-brings a o z f = go (refusal a k) f
     where
       go : (n : ℕ) → (n ≡ 0 → Brings (place_of a C o.answer) k o) → Brings (place_of a C (unless n o k).answer) k (unless n o k)
       go zero g = g refl
-      go (suc n) g = subst (λ (p : Place). k.medium ≡ put k.medium p.at (take p.size (drop p.at k.medium))) (sym (z (suc n))) refl
+      go (suc n) g = subst (λ (p : Option Place). k.medium ≡ part_brought p k.medium k.medium) (sym (z (suc n))) refl
 
   some-slots : (a : Call) → unfit a k ≡ false → 0 < C
   some-slots a e = let S : Sound k.state = sound_facts k.state (fit_sound a k e) in omega (arith, S.slots≥)
@@ -95,11 +95,11 @@ module _ (k : Keeper) where
   unfolding waiting_row row_at
   row-length n p e = simp zero-add at (length-row 0 C (n - 1) k.waiting p (omega arith))
 
-  head-put : (p : ℕ) → length k.medium ≡ medium_length N C → Brings head_place k (record { answer = head; keeper = store_head p k })
+  head-put : (p : ℕ) → length k.medium ≡ medium_length N C → Brings (Some head_place) k (record { answer = head; keeper = store_head p k })
   unfolding store_head with_medium head_bytes
   head-put p e = part-put k.medium (head_bytes N C p) 0 32 (head# N C p) (head_fits _ e)
 
-  cell-put : (c : ℕ) → c < N → length k.medium ≡ medium_length N C → Brings (cell_place C c) k (record { answer = stored; keeper = store_cell c k })
+  cell-put : (c : ℕ) → c < N → length k.medium ≡ medium_length N C → Brings (Some (cell_place C c)) k (record { answer = stored; keeper = store_cell c k })
   unfolding store_cell with_medium
   cell-put c h e = part-put k.medium (bytes_of 8 (get_or k.current c 0)) (cell_at C c) 8 (length_bytes_of 8 _) (cell_fits _ c h e)
 
@@ -116,7 +116,7 @@ module _ (k : Keeper) where
   backs c b = pick b (record { answer = stored; keeper = cleaned c (store_cell c k) }) (record { answer = clean; keeper = k })
 
   pub brings_back : (c : ℕ) → Brings (place_of (WriteBack c) C (act (WriteBack c) k).answer) k (act (WriteBack c) k)
-  unfolding act performed backs cleaned tests lent put
+  unfolding act performed backs cleaned tests lent
   brings_back c = unless-brings (WriteBack c) (backs c (ltb 0 (get_or k.first c 0))) (λ n. refl) (λ e. go e (ltb 0 (get_or k.first c 0)))
     where
       go : refusal (WriteBack c) k ≡ 0 → (b : Bool) → Brings (back_place C c (backs c b).answer) k (backs c b)
@@ -132,7 +132,7 @@ module _ (k : Keeper) where
       (record { answer = done 0; keeper = k })
 
   pub brings_force : Brings (place_of Force C (act Force k).answer) k (act Force k)
-  unfolding act performed forces forced tests lent put with_state with_medium
+  unfolding act performed forces forced tests lent with_state with_medium
   brings_force = unless-brings Force (forces (ltb k.state.f k.state.l)) (λ n. refl) (λ e. go (refusal-none Force k e).0 (ltb k.state.f k.state.l))
     where
       go : unfit Force k ≡ false → (b : Bool) → Brings (force_place C (forces b).answer) k (forces b)
@@ -157,9 +157,9 @@ module _ (k : Keeper) where
     where
       at-end : length k.medium ≡ medium_length N C → (b : Bool) → Brings (step_place C (ends b).answer) k (ends b)
       at-end h true = unfold ends with_state in head-put k.state.l h
-      at-end h false = unfold ends with_state put in refl
+      at-end h false = unfold ends with_state in refl
 
-      go : length k.medium ≡ medium_length N C → (o : Option ℕ) → differing (table_of N C k.medium) k.current 0 ≡ o
+      go : length k.medium ≡ medium_length N C → (o : Maybe ℕ) → differing (table_of N C k.medium) k.current 0 ≡ o
           → Brings (step_place C (step_at o k).answer) k (step_at o k)
       go h (some c) e =
           unfold step_at in

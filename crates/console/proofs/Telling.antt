@@ -1,5 +1,6 @@
--- What a call tells of rows doesn't depend on a buffer that it is not lent; write-back and recovery step judge no row and tell nothing.
-use Prim.Native.Nat.{ℕ, zero, suc}
+-- What a call tells of rows doesn't depend on a buffer that it is not lent; one that is accepted tells nothing, and write-back and recovery step
+-- judge no row.
+use Prim.Native.Nat.{ℕ}
 use mathlib.Core.Path.{◌≡◌, refl, sym, ap, ◌∙◌}
 use mathlib.Core.Bool.{Bool, true, false, ◌||◌}
 use lib.Dec.{eqb}
@@ -7,26 +8,22 @@ use Rattle.scope.specs.Bytes.{pick}
 use Rattle.scope.specs.Row.{faultless}
 use Rattle.scope.specs.Keeper.{Keeper, State, Outcome, refusal_of, waiting_row, medium_row, with_state, with_medium, with_waiting}
 use Rattle.scope.specs.Refusals.{Call, Format, RecoveryStart, RecoveryStep, Begin, Commit, Abort, Force, TableView, Read, WriteBack, Cut, Look, Write, lent, lent_start, unfit, tests, refusal, open_fault, waiting_fault, bad_row, told}
-use Rattle.scope.specs.Calls.{unless, act, performed, unchanged}
+use Rattle.scope.specs.Calls.{act, performed}
+use Rattle.scope.proofs.Callers.{refusal-answered}
 use Rattle.scope.proofs.Frames.{onto, frame}
 
--- a call whose answer, where it is done, is no refusal: the number in its answer is its refusal's
-numbered : (a : Call) (k : Keeper) → refusal_of (performed a k).answer ≡ 0 → refusal_of (act a k).answer ≡ refusal a k
-unfolding act
-numbered a k z = go (refusal a k)
-  where
-    go : (n : ℕ) → refusal_of (unless n (performed a k) (unchanged a k)).answer ≡ n
-    go zero = z
-    go (suc n) = refl
-
-same-refusal : (a : Call) (g k : Keeper) → ((x : Keeper) → refusal_of (performed a x).answer ≡ 0) → refusal a (onto a g k) ≡ refusal a k
-same-refusal a g k z =
-    sym (numbered a (onto a g k) (z (onto a g k))) ∙ ap (λ (o : Outcome). refusal_of o.answer) (frame a g k) ∙ numbered a k (z k)
+same-refusal : (a : Call) (g k : Keeper) → refusal a (onto a g k) ≡ refusal a k
+same-refusal a g k = sym (refusal-answered a (onto a g k)) ∙ ap (λ (o : Outcome). refusal_of o.answer) (frame a g k) ∙ refusal-answered a k
 
 tells_by : (a : Call) (g k : Keeper) → refusal a (onto a g k) ≡ refusal a k → bad_row a (onto a g k) ≡ bad_row a k → told a (onto a g k) ≡ told a k
 unfolding told
 tells_by a g k e b =
     ap (λ (n : ℕ). pick (eqb n 2 || eqb n 7) (bad_row a (onto a g k)) faultless) e ∙ ap (λ f. pick (eqb (refusal a k) 2 || eqb (refusal a k) 7) f faultless) b
+
+-- a call that is accepted tells nothing
+pub tells_nothing : (a : Call) (k : Keeper) → refusal_of (act a k).answer ≡ 0 → told a k ≡ faultless
+unfolding told
+tells_nothing a k e = let z : refusal a k ≡ 0 = sym (refusal-answered a k) ∙ e in rw z refl
 
 -- ONE LAW FOR ALL CALLS
 pub tells_frame : (a : Call) (g k : Keeper) → told a (onto a g k) ≡ told a k
@@ -34,9 +31,9 @@ unfolding refusal tests unfit lent bad_row open_fault waiting_fault performed wa
 tells_frame (Format n c) g k = tells_by (Format n c) g k refl refl
 tells_frame RecoveryStart g k = refl
 tells_frame RecoveryStep g k = tells_by RecoveryStep g k refl refl
-tells_frame Begin g k = tells_by Begin g k (same-refusal Begin g k (λ x. refl)) refl
-tells_frame Commit g k = tells_by Commit g k (same-refusal Commit g k (λ x. refl)) refl
-tells_frame Abort g k = tells_by Abort g k (same-refusal Abort g k (λ x. refl)) refl
+tells_frame Begin g k = tells_by Begin g k (same-refusal Begin g k) refl
+tells_frame Commit g k = tells_by Commit g k (same-refusal Commit g k) refl
+tells_frame Abort g k = tells_by Abort g k (same-refusal Abort g k) refl
 tells_frame Force g k = tells_by Force g k refl refl
 tells_frame TableView g k = tells_by TableView g k refl refl
 tells_frame (Read c) g k = tells_by (Read c) g k refl refl

@@ -1,6 +1,0 @@
--- `book::current` meets its contract. It ends: the writes that are left fall.
-use Prim.Native.Nat.{◌-◌}
-use Rattle.book.proofs.current.Given as goal
-
-abbrev pub decreases-loop-i : goal.decreases-loop-i
-decreases-loop-i l = l.n - l.i

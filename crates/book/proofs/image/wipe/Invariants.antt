@@ -1,6 +1,0 @@
--- `book::image::wipe` meets its contract. It ends: the bytes that are left fall.
-use Prim.Native.Nat.{◌-◌}
-use Rattle.book.proofs.image.wipe.Given as goal
-
-abbrev pub decreases-loop-i : goal.decreases-loop-i
-decreases-loop-i l = l.end - l.i
