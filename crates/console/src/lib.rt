@@ -13,6 +13,21 @@ use medium::layout::cell_at;
 use recovery::Step;
 use row::Fault;
 
+// A call of the keeper's and its arguments.
+#[derive(Clone, Copy, Debug, PartialEq, Eq)]
+pub enum Call {
+    Begin,
+    Write { cell: u32, value: u64 },
+    Abort,
+    Commit,
+    Read { cell: u32 },
+    Force,
+    Cut { entry: u32 },
+    WriteBack { cell: u32 },
+    Step,
+    Start,
+}
+
 pub const BEGIN: u32 = 0;
 
 pub const WRITE: u32 = 1;
