@@ -1,5 +1,6 @@
 // The medium's file: the medium, byte for byte. A store is brought to its own place and synced before the call is answered.
 use keeper::State;
+use orders::say::Cause;
 use orders::{say, show};
 use state::{Numbers, Phase};
 use std::fs::{File, OpenOptions};
@@ -197,17 +198,11 @@ fn same_length(file: &Option<File>, size: usize) -> Touch {
 
 // An empty file may be touched; a medium, where the order says so in words. Anything else stays as it is.
 fn may_touch(session: &Session, erase: bool, medium: &[u8]) -> Touch {
-    let cause = show::cause(medium, session.size);
-    if cause == say::NO_MEDIUM {
-        return Touch::NoMedium;
+    match show::cause(medium, session.size) {
+        Cause::NoMedium => Touch::NoMedium,
+        Cause::NoRecovery if !erase => Touch::Medium,
+        Cause::Empty | Cause::NoRecovery => same_length(&session.file, session.size),
     }
-    if cause == say::EMPTY {
-        return same_length(&session.file, session.size);
-    }
-    if erase {
-        return same_length(&session.file, session.size);
-    }
-    Touch::Medium
 }
 
 fn say_kept(why: Touch) -> bool {
@@ -278,6 +273,6 @@ pub fn format(
         let heard = say_kept(may);
         return Told { session, on: heard };
     };
-    let m = words::least(medium::layout::medium_length(cells, slots), medium.len());
+    let m = medium::layout::medium_length(cells, slots).min(medium.len());
     format_on(rt, session, cells, slots, &mut medium[0..m])
 }

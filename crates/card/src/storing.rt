@@ -82,7 +82,7 @@ fn beside(rows: Rows, did: Did, at: usize, end: usize) -> Rows {
 fn hold(file: &Option<File>, medium: &[u8], rows: Rows, did: Did) -> Rows {
     let state = did.state;
     let at = did.at;
-    let end = words::least(at, 40992) + words::least(did.size, 40992);
+    let end = at.min(40992) + did.size.min(40992);
     let from = rows.from;
     if from < rows.to {
         if from / 512 == at / 512 {

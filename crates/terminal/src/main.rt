@@ -6,9 +6,9 @@
 use card::file::{Session, Told};
 use card::storing::Rows;
 use card::{file, storing};
-use console::{Asked, Did};
+use console::{Asked, Call, Did};
 use keeper::State;
-use orders::{Order, say, show};
+use orders::{Order, Wrong, say, show};
 use std::fs::File;
 use std::rt::HostRuntime;
 
@@ -82,6 +82,41 @@ fn asked(call: u32) -> Asked {
         cell: 0,
         value: 0,
         entry: 0,
+    }
+}
+
+fn asked_for(call: Call) -> Asked {
+    match call {
+        Call::Begin => asked(console::BEGIN),
+        Call::Write { cell, value } => Asked {
+            call: console::WRITE,
+            cell,
+            value,
+            entry: 0,
+        },
+        Call::Abort => asked(console::ABORT),
+        Call::Commit => asked(console::COMMIT),
+        Call::Read { cell } => Asked {
+            call: console::READ,
+            cell,
+            value: 0,
+            entry: 0,
+        },
+        Call::Force => asked(console::FORCE),
+        Call::Cut { entry } => Asked {
+            call: console::CUT,
+            cell: 0,
+            value: 0,
+            entry,
+        },
+        Call::WriteBack { cell } => Asked {
+            call: console::BACK,
+            cell,
+            value: 0,
+            entry: 0,
+        },
+        Call::Step => asked(console::STEP),
+        Call::Start => asked(console::START),
     }
 }
 
@@ -203,29 +238,31 @@ fn stored(session: Session, rows: Rows, medium: &[u8]) -> Told {
 fn order_on(
     rt: HostRuntime,
     session: Session,
-    asked: Asked,
+    order: Order,
     medium: &mut [u8],
     current: &mut [u64],
     first: &mut [u32],
     last: &mut [u32],
     waiting: &mut [u8],
 ) -> Told {
-    if asked.call == orders::RECOVER {
-        return recover_on(rt, session, medium, current, first, last, waiting);
+    match order {
+        Order::Recover => recover_on(rt, session, medium, current, first, last, waiting),
+        Order::Store => store_on(session, medium, current, first, last, waiting),
+        Order::Call(call) => {
+            let state = session.state;
+            let asked = asked_for(call);
+            let did = console::make(state, asked, medium, current, first, last, waiting);
+            finish(rt, session, asked, did, medium)
+        }
+        _ => Told { session, on: true },
     }
-    if asked.call == orders::STORE {
-        return store_on(session, medium, current, first, last, waiting);
-    }
-    let state = session.state;
-    let did = console::make(state, asked, medium, current, first, last, waiting);
-    finish(rt, session, asked, did, medium)
 }
 
 // An order for the keeper, with the sizes that the medium's head names.
 fn call(
     rt: HostRuntime,
     session: Session,
-    asked: Asked,
+    order: Order,
     medium: &mut [u8],
     current: &mut [u64],
     first: &mut [u32],
@@ -234,15 +271,15 @@ fn call(
 ) -> Told {
     let cells = show::head_number(medium, 0);
     let rows = show::row_bytes(medium);
-    let m = words::least(session.size, medium.len());
-    let n = words::least(cells, current.len());
-    let n1 = words::least(cells, first.len());
-    let n2 = words::least(cells, last.len());
-    let w = words::least(rows, waiting.len());
+    let m = session.size.min(medium.len());
+    let n = cells.min(current.len());
+    let n1 = cells.min(first.len());
+    let n2 = cells.min(last.len());
+    let w = rows.min(waiting.len());
     order_on(
         rt,
         session,
-        asked,
+        order,
         &mut medium[0..m],
         &mut current[0..n],
         &mut first[0..n1],
@@ -252,25 +289,18 @@ fn call(
 }
 
 // Orders that are no call of the keeper's with a state.
-fn aside<'a>(session: Session, order: Order, medium: &'a [u8], waiting: &'a [u8]) -> Told {
-    let kind = order.kind;
-    if kind == orders::QUIT {
-        return Told { session, on: false };
-    }
-    if kind == orders::HELP {
-        let heard = say::help();
-        return Told { session, on: heard };
-    }
-    if kind == orders::LIST {
-        let heard = show::list(medium, session.size);
-        return Told { session, on: heard };
-    }
-    if kind == orders::LOOK {
-        let state = session.state;
-        let heard = show::look(state, order.a, medium, waiting, session.size);
-        return Told { session, on: heard };
-    }
-    Told { session, on: true }
+fn aside(session: Session, order: Order, medium: &[u8], waiting: &[u8]) -> Told {
+    let on = match order {
+        Order::Quit => false,
+        Order::Help => say::help(),
+        Order::List => show::list(medium, session.size),
+        Order::Look { entry } => {
+            let state = session.state;
+            show::look(state, entry, medium, waiting, session.size)
+        }
+        _ => true,
+    };
+    Told { session, on }
 }
 
 // An order for the file that is open.
@@ -284,43 +314,24 @@ fn on_file(
     last: &mut [u32],
     waiting: &mut [u8],
 ) -> Told {
-    if order.kind == orders::FORMAT {
-        return file::format(rt, session, order.a, order.b, order.erase, medium);
+    match order {
+        Order::Format {
+            cells,
+            slots,
+            erase,
+        } => file::format(rt, session, cells, slots, erase, medium),
+        Order::Call(_) | Order::Recover | Order::Store => {
+            call(rt, session, order, medium, current, first, last, waiting)
+        }
+        _ => aside(session, order, medium, waiting),
     }
-    if orders::is_keepers(order.kind) {
-        let asked = orders::asked(order);
-        return call(rt, session, asked, medium, current, first, last, waiting);
-    }
-    aside(session, order, medium, waiting)
-}
-
-// Whether an order can be taken with this session.
-fn fits(session: &Session, order: Order) -> bool {
-    if order.wrong {
-        return false;
-    }
-    if session.file.is_some() {
-        return true;
-    }
-    if orders::wants_file(order.kind) {
-        return false;
-    }
-    true
-}
-
-// A line that says what was expected, where an order can't be taken.
-fn expected(order: Order) -> bool {
-    if order.wrong {
-        return say::usage(order.kind);
-    }
-    say::no_file()
 }
 
 // One order. Open reads the file and starts recovery, which stores nothing.
 fn obey(
     rt: HostRuntime,
     session: Session,
-    order: Order,
+    order: Result<Order, Wrong>,
     line: &[u8],
     medium: &mut [u8],
     current: &mut [u64],
@@ -328,31 +339,37 @@ fn obey(
     last: &mut [u32],
     waiting: &mut [u8],
 ) -> Told {
-    let ok = fits(&session, order);
-    if ok {} else {
-        return Told {
-            session,
-            on: expected(order),
-        };
-    }
-    if order.kind == orders::OPEN {
-        let name = order.name;
-        let opened = file::open(rt, session, line, name, medium);
-        let next = opened.session;
-        if opened.on {} else {
+    let order = match order {
+        Ok(order) => order,
+        Err(wrong) => {
             return Told {
-                session: next,
-                on: file::say_unopened(),
+                session,
+                on: say::usage(wrong),
             };
         }
-        let start = asked(console::START);
-        return call(rt, next, start, medium, current, first, last, waiting);
+    };
+    if session.file.is_none() && order.wants_file() {
+        return Told {
+            session,
+            on: say::no_file(),
+        };
     }
-    if order.kind == orders::NEW {
-        let name = order.name;
-        return file::make(rt, session, line, name);
+    match order {
+        Order::Open(name) => {
+            let opened = file::open(rt, session, line, name, medium);
+            let next = opened.session;
+            if !opened.on {
+                return Told {
+                    session: next,
+                    on: file::say_unopened(),
+                };
+            }
+            let start = Order::Call(Call::Start);
+            call(rt, next, start, medium, current, first, last, waiting)
+        }
+        Order::New(name) => file::make(rt, session, line, name),
+        _ => on_file(rt, session, order, medium, current, first, last, waiting),
     }
-    on_file(rt, session, order, medium, current, first, last, waiting)
 }
 
 // Orders until the input ends, one says quit, the file fails, or nobody takes an answer any more.
