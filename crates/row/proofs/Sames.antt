@@ -2,7 +2,7 @@
 use mathlib.Core.Path.{◌≡◌, refl, sym, ap, ◌∙◌}
 use mathlib.Core.Option.{Option, none, some}
 use Rattle.scope.specs.Row.{Entry, update, commit_entry, abort_entry, Reason, too_short, other_number, unknown_kind, filler_not_zero, cell_out_of_range, cell_left, old_left, new_left, not_update, hole, Fault, faultless, fault}
-use Rattle.row.specs.Row.{meaning, reason, reason_of, fault_of}
+use Rattle.row.specs.Row.{meaning, reason, reason_of, fault_in, fault_of}
 use Rattle.row.specs.declared.Entry.TheVariants.{Update, Commit, Abort}
 use Rattle.row.specs.declared.Reason as reasons
 use Rattle.row.specs.declared.Reason.TheVariants.{TooShort, OtherNumber, UnknownKind, FillerNotZero, CellOutOfRange, CellLeft, OldLeft, NewLeft, NotUpdate, Hole}
@@ -53,14 +53,22 @@ row_same r t e x p q = sym (go r) ∙ (λ i. row_back ((p.0 ∙ sym q.0) i) ((p.
     go (Ok Abort) = refl
     go (Err x) = ap Err (reason_there x)
 
-fault_back : Fault → code_option.Option faults.Fault
-fault_back faultless = None
-fault_back (fault x n) = Some (record { reason = reason_back x; entry = n })
+pub fault_back : Fault → faults.Fault
+fault_back faultless = record { reason = NotUpdate; entry = 0 }
+fault_back (fault x n) = record { reason = reason_back x; entry = n }
+
+pub fault_there : (w : faults.Fault) → fault_back (fault_in w) ≡ w
+unfolding fault_back
+fault_there w = λ i. record { reason = reason_there w.reason i; entry = w.entry }
+
+told_back : Fault → code_option.Option faults.Fault
+told_back faultless = None
+told_back (fault x n) = Some (fault_back (fault x n))
 
 pub fault-same : (a b : code_option.Option faults.Fault) (f : Fault) → fault_of a ≡ f → fault_of b ≡ f → a ≡ b
-unfolding fault_back
-fault-same a b f p q = sym (go a) ∙ ap fault_back (p ∙ sym q) ∙ go b
+unfolding told_back
+fault-same a b f p q = sym (go a) ∙ ap told_back (p ∙ sym q) ∙ go b
   where
-    go : (a : code_option.Option faults.Fault) → fault_back (fault_of a) ≡ a
+    go : (a : code_option.Option faults.Fault) → told_back (fault_of a) ≡ a
     go None = refl
-    go (Some w) = λ i. Some (record { reason = reason_there w.reason i; entry = w.entry })
+    go (Some w) = ap Some (fault_there w)
