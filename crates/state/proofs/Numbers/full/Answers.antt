@@ -1,4 +1,4 @@
-use Rattle.std.proofs.Common.{rules, arith}
+use Rattle.std.proofs.Common.{rules}
 use Rattle.scope.specs.Refusals.{full}
 use Rattle.state.specs.State.{state_of}
 use Rattle.state.proofs.Numbers.full.Goals as goal

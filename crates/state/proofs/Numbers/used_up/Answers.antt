@@ -1,4 +1,4 @@
-use Rattle.std.proofs.Common.{rules, arith}
+use Rattle.std.proofs.Common.{rules}
 use Rattle.scope.specs.Bytes.{max_no}
 use Rattle.scope.specs.Refusals.{used_up}
 use Rattle.state.specs.State.{state_of}
