@@ -1,15 +1,15 @@
 -- Recovery: one law for each way that a function ends, from the tests that led there; a start's table is the replay of the entries that scan counted.
-use Prim.Native.Nat.{ℕ, zero, suc, ◌+◌, ◌-◌, ◌*◌, ◌≤◌, ◌<◌}
+use Prim.Native.Nat.{ℕ, suc, ◌+◌, ◌-◌, ◌*◌, ◌≤◌, ◌<◌}
 use mathlib.Core.Path.{◌≡◌, refl, sym, ap, ◌∙◌}
-use mathlib.Core.Bool.{Bool, true, false, ◌&&◌, not}
+use mathlib.Core.Bool.{Bool, true, false, ◌&&◌, ◌||◌}
 use mathlib.Core.List.{List, [], ◌∷◌}
 use mathlib.Core.Option.{Option, none, some}
 use native.Mathlib.Omega.{arith}
-use borrow.Author.Tests.{lt-ltb, le-ltb, eq-eqb, ne_eqb, leb-true, eqb-true}
+use borrow.Author.Tests.{lt-ltb, le-ltb, leb-true, eqb-true}
 use lib.Dec.{eqb}
 use lib.ListN.{length, get_or, replicate}
 use Rattle.scope.specs.Bytes.{pick, bytes_of, number_at, put}
-use Rattle.scope.specs.Keeper.{Answer, recovering, done, refused, cell, head, clean, in_range, medium_length, cell_at, head_bytes, is_head_ok, no_state, with_state, with_medium, made_to, dropped_to, store_cell, store_head, is_recovering, sound}
+use Rattle.scope.specs.Keeper.{Keeper, Answer, recovering, done, refused, cell, head, clean, in_range, medium_length, cell_at, head_bytes, is_head_ok, no_state, with_state, with_medium, made_to, dropped_to, store_cell, store_head}
 use Rattle.scope.specs.Recovery.{journal, journal_fault, replay, table_of, differing}
 use Rattle.scope.specs.Refusals.{RecoveryStart, RecoveryStep, is_medium, is_cells, lent, lent_start, unfit, tests, refusal, bad_row, told}
 use Rattle.scope.specs.Calls.{started, step_at, performed, act}
@@ -27,10 +27,10 @@ use Rattle.medium.specs.Lent.{found}
 use Rattle.journal.specs.Entries.{entry_in}
 use Rattle.replay.specs.Replay.{last_of, upto, malformed, replay_from, replayed}
 use Rattle.replay.proofs.Replaying.{replay_rows, Last, last_some, last_none, last_fits}
-use Rattle.state.specs.State.{phase_of, state_of}
+use Rattle.state.specs.State.{state_of}
 use Rattle.state.specs.declared.Numbers.{Numbers}
 use Rattle.state.specs.declared.Phase.{Phase}
-use Rattle.state.specs.declared.Phase.TheVariants.{Idle, Recovering}
+use Rattle.state.specs.declared.Phase.TheVariants.{Idle}
 use Rattle.state.proofs.Facts.{and_left, and_right, sound_facts, medium_fits}
 use Rattle.state.specs.Lent.{lent_to, stateless, left}
 
@@ -144,19 +144,28 @@ module _ (m current first last waiting : List ℕ) where
                 let d = qg ∙ ap (λ i. replicate {A = ℕ} i 0) start_lent.2 in
                 let l : x ≡ number_at 4 8 m + length read.entries = read.last in (
                   (λ i. record {
-                        answer = done 0;
-                        keeper = record {
-                          medium = m;
-                          current = a i;
-                          first = b i;
-                          last = d i;
-                          waiting = waiting;
-                          state = record { cells = qn i; slots = qc i; h = qh i; f = l i; l = l i; o = l i; phase = recovering };
-                        };
-                      })
+                    answer = done 0;
+                    keeper = record {
+                      medium = m;
+                      current = a i;
+                      first = b i;
+                      last = d i;
+                      waiting = waiting;
+                      state = record { cells = qn i; slots = qc i; h = qh i; f = l i; l = l i; o = l i; phase = recovering };
+                    };
+                  })
                       ∙ accepted,
                   told_nothing RecoveryStart (stateless m current first last waiting) 0 number_0 (λ z. omega arith) (λ z. omega arith),
                 )
+
+-- a step tells of no row
+pub step_silent : (k : Keeper) → faultless ≡ told RecoveryStep k
+unfolding told bad_row
+step_silent k = go (eqb (refusal RecoveryStep k) 2 || eqb (refusal RecoveryStep k) 7)
+  where
+    go : (t : Bool) → faultless ≡ pick t faultless faultless
+    go true = refl
+    go false = refl
 
 -- a step's ends
 

@@ -5,6 +5,7 @@
 ghost use Rattle.std.specs.Prelude.{◌≡◌, ◌&&◌, List, [], ℕ, ◌+◌, ◌*◌, ◌≤◌, length};
 ghost use Rattle.std.proofs.Math.Option.{none};
 ghost use Rattle.scope.specs.Bytes.{number_at};
+ghost use Rattle.scope.specs.Row.{faultless};
 ghost use Rattle.scope.specs.Keeper.{is_head_ok};
 ghost use Rattle.scope.specs.Refusals.{RecoveryStart, RecoveryStep, lent_start, refusal, told};
 ghost use Rattle.scope.specs.Calls.{step_at, act};
@@ -21,7 +22,7 @@ use replay::scan::scan;
 use state::{Numbers, Phase};
 
 // What a recovery step stored: a cell or the head, or nothing.
-#[derive(Clone, Copy, Debug, PartialEq, Eq)]
+#[derive(Clone, Copy, PartialEq, Eq)]
 pub enum Step {
     Cell(u32),
     Head,
@@ -73,9 +74,14 @@ pub fn recovery_start(
     let cells = number::get4(medium, 0);
     let slots = number::get4(medium, 4);
     let h = number::get4(medium, 8);
-    let e = scan(medium, slots, cells, h).map_err(Refusal::Malformed)?;
+    let e = match scan(medium, slots, cells, h) {
+        Ok(e) => e,
+        Err(fault) => return Err(Refusal::Malformed(fault)),
+    };
     load(medium, slots, current);
-    replay(medium, slots, cells, h, e, current).map_err(Refusal::Malformed)?;
+    if let Err(fault) = replay(medium, slots, cells, h, e, current) {
+        return Err(Refusal::Malformed(fault));
+    }
     first.fill(0);
     last.fill(0);
     Ok(Numbers {
@@ -95,7 +101,8 @@ fn step_refusal(
     medium: &[u8],
     current: &[u64],
 ) -> Result<(), Refusal>
-    ensures { number_in result ≡ refusal RecoveryStep (lent_to numbers phase medium.now current.now [] [] []) }
+    ensures number { number_in result ≡ refusal RecoveryStep (lent_to numbers phase medium.now current.now [] [] []) }
+    ensures fault { told_in result ≡ faultless }
 {
     if !(numbers.sound(phase)
         && numbers.fits_medium(medium.len())
@@ -140,7 +147,7 @@ pub fn recovery_step(
 ) -> Result<Stepped, Refusal>
     ensures { let before = lent_to numbers phase medium.old current.now [] [] [] in
         let after = step_left result numbers phase medium.new current.now [] [] [] in
-        after ≡ act RecoveryStep before }
+        (after ≡ act RecoveryStep before) × (told_in result ≡ told RecoveryStep before) }
 {
     step_refusal(numbers, phase, medium, current)?;
     if let Some(cell) = lowest_differing(medium, numbers.slots, current) {
