@@ -1,33 +1,26 @@
 // Replay of a medium's entries over a table of current values. It refuses where a row isn't its entry; behind `scan` each row is.
 ghost use Rattle.std.specs.Prelude.{◌≡◌, ◌+◌, ◌-◌, ◌*◌, ◌<◌, ◌≤◌, length};
+ghost use Rattle.scope.specs.Row.{faultless, fault_at, lowest_fault};
 ghost use Rattle.scope.specs.Keeper.{row_at};
-ghost use Rattle.journal.specs.Entries.{Rows, entry_in};
-ghost use Rattle.replay.specs.Replay.{undo_entry, undo_from, replay_entry, open_after, opened, replay_from, replayed};
+ghost use Rattle.journal.specs.Entries.{Rows, entry_in, wrong_in};
+ghost use Rattle.replay.specs.Replay.{undo_entry, undo_from, replay_entry, open_after, upto, malformed, replay_from, replayed};
 
 use journal::{entry_at, entry_from, first_row, next_row};
 use medium::layout::index;
-use row::{Entry, Row};
-
-// An entry that was replayed: after which number the open transaction's updates come. Or its row isn't that entry.
-#[derive(Clone, Copy)]
-pub enum Replayed {
-    Open(u32),
-    Malformed,
-}
+use row::{Entry, Fault};
 
 // Entry n undone.
 fn undo_entry(medium: &[u8], slots: u32, cells: u32, n: u32, current: &mut [u64])
     requires { (Rows medium.now 32 slots n) × (length current.old ≡ cells) }
     ensures { current.new ≡ undo_entry (entry_in medium.now 32 slots cells n) current.old }
 {
-    let Row::Holds(what) = entry_at(medium, 32, slots, cells, n) else {
+    let Ok(what) = entry_at(medium, 32, slots, cells, n) else {
         return;
     };
-    let Entry::Update { cell, old, new: _ } = what else {
+    let Entry::Update { cell, old, .. } = what else {
         return;
     };
-    let at = index(cell);
-    current[at] = old;
+    current[index(cell)] = old;
 }
 
 // Entries n, n - 1, .., s + 1 undone, in falling order.
@@ -35,14 +28,12 @@ fn undo(medium: &[u8], slots: u32, cells: u32, s: u32, n: u32, current: &mut [u6
     requires { (Rows medium.now 32 slots 1) × (length current.old ≡ cells) }
     ensures { current.new ≡ undo_from (entry_in medium.now 32 slots cells) s (n - s) current.old }
 {
-    let mut k = n;
-    while s < k {
-        undo_entry(medium, slots, cells, k, current);
-        k -= 1;
+    for k in (s..n).rev() {
+        undo_entry(medium, slots, cells, k + 1, current);
     }
 }
 
-// Entry n + 1, whose row begins at a place, replayed, where the open transaction's updates come after s.
+// Entry n + 1, whose row begins at a place, replayed, where the open transaction's updates come after s: after which number they come then.
 fn replay_entry(
     medium: &[u8],
     slots: u32,
@@ -51,47 +42,49 @@ fn replay_entry(
     n: u32,
     at: usize,
     current: &mut [u64],
-) -> Replayed
+) -> Result<u32, Fault>
     requires rows { (Rows medium.now 32 slots 1) × ((length current.old ≡ cells) × (n < 4294967295)) }
     requires place { (at ≡ 32 + row_at slots (n + 1)) × (at ≤ 32 * slots) }
-    ensures { (current.new ≡ replay_entry (entry_in medium.now 32 slots cells) (entry_in medium.now 32 slots cells (n + 1)) s n current.old) × (opened result ≡ open_after (entry_in medium.now 32 slots cells (n + 1)) s (n + 1)) }
+    ensures table { current.new ≡ replay_entry (entry_in medium.now 32 slots cells) (entry_in medium.now 32 slots cells (n + 1)) s n current.old }
+    ensures after { upto result ≡ open_after (entry_in medium.now 32 slots cells (n + 1)) s (n + 1) }
+    ensures fault { malformed result ≡ fault_at (n + 1) (wrong_in medium.now 32 slots cells (n + 1)) faultless }
 {
-    let next = n + 1;
-    let Row::Holds(what) = entry_from(medium, at, cells, next) else {
-        return Replayed::Malformed;
-    };
-    match what {
-        Entry::Update { cell, old: _, new } => {
-            let place = index(cell);
-            current[place] = new;
-            Replayed::Open(s)
+    let entry = n + 1;
+    match entry_from(medium, at, cells, entry) {
+        Ok(Entry::Update { cell, new, .. }) => {
+            current[index(cell)] = new;
+            Ok(s)
         }
-        Entry::Commit => Replayed::Open(next),
-        Entry::Abort => {
+        Ok(Entry::Commit) => Ok(entry),
+        Ok(Entry::Abort) => {
             undo(medium, slots, cells, s, n, current);
-            Replayed::Open(next)
+            Ok(entry)
         }
+        Err(reason) => Err(Fault { reason, entry }),
     }
 }
 
-// Entries h + 1 to e replayed, and what is left open undone; answers whether each row is its entry. Goes once over those rows, and once
+// Entries h + 1 to e replayed, and what is left open undone; refuses where a row isn't its entry. Goes once over those rows, and once
 // more over each undone one.
-pub fn replay(medium: &[u8], slots: u32, cells: u32, h: u32, e: u32, current: &mut [u64]) -> bool
+pub fn replay(
+    medium: &[u8],
+    slots: u32,
+    cells: u32,
+    h: u32,
+    e: u32,
+    current: &mut [u64],
+) -> Result<(), Fault>
     requires { (Rows medium.now 32 slots 1) × ((length current.old ≡ cells) × (h ≤ e)) }
-    ensures { let after = replayed result current.new in
+    ensures table { let after = replayed result current.new in
         after ≡ replay_from (entry_in medium.now 32 slots cells) (e - h) h h current.old }
+    ensures fault { malformed result ≡ lowest_fault (wrong_in medium.now 32 slots cells) (e - h) h }
 {
-    let mut n = h;
     let mut s = h;
     let mut at = first_row(slots, h);
-    while n < e {
-        let Replayed::Open(open) = replay_entry(medium, slots, cells, s, n, at, current) else {
-            return false;
-        };
-        s = open;
+    for n in h..e {
+        s = replay_entry(medium, slots, cells, s, n, at, current)?;
         at = next_row(slots, at);
-        n += 1;
     }
-    undo(medium, slots, cells, s, n, current);
-    true
+    undo(medium, slots, cells, s, e, current);
+    Ok(())
 }

@@ -8,6 +8,3 @@ use Rattle.replay.proofs.entries.undo.Given as goal
 
 abbrev pub invariant-loop-k : goal.invariant-loop-k
 invariant-loop-k l = (length l.current ≡ l.cells) × (undo_from (entry_in l.medium 32 l.slots l.cells) l.s (l.n - l.s) l.initial.current ≡ undo_from (entry_in l.medium 32 l.slots l.cells) l.s (l.k - l.s) l.current)
-
-abbrev pub decreases-loop-k : goal.decreases-loop-k
-decreases-loop-k l = l.k
