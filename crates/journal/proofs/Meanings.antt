@@ -5,22 +5,21 @@ use mathlib.Core.Bool.{Bool, true, false, ◌&&◌}
 use mathlib.Core.List.{List}
 use mathlib.Core.Option.{Option, none, some}
 use lib.Dec.{eqb}
+use Rattle.std.specs.Prelude.{Result, Ok, Err}
 use Rattle.scope.specs.Bytes.{pick}
 use Rattle.scope.specs.Row.{Entry, update, commit_entry, abort_entry, entry_of, is_update, Fault, fault_at}
 use Rattle.scope.proofs.Row.{read_fields}
 use Rattle.row.specs.Row.{entry, meaning, reason_of}
-use Rattle.row.specs.declared.Row.{Row}
-use Rattle.row.specs.declared.Row.TheVariants.{Holds, Wrong}
 use Rattle.row.specs.declared.Entry as code
 use Rattle.row.specs.declared.Reason as reasons
 use Rattle.row.specs.declared.Entry.TheVariants.{Update, Commit, Abort}
 use Rattle.journal.specs.Entries.{entry_in}
 
-module _ (r : Row) (o : Option Entry) (e : meaning r ≡ o) where
-  pub is_nothing : (x : reasons.Reason) → r ≡ Wrong x → none ≡ o
+module _ (r : Result code.Entry reasons.Reason) (o : Option Entry) (e : meaning r ≡ o) where
+  pub is_nothing : (x : reasons.Reason) → r ≡ Err x → none ≡ o
   is_nothing x p = sym (ap meaning p) ∙ e
 
-  module _ (w : code.Entry) (p : r ≡ Holds w) where
+  module _ (w : code.Entry) (p : r ≡ Ok w) where
     pub is_some : some (entry w) ≡ o
     is_some = sym (ap meaning p) ∙ e
 
@@ -62,5 +61,5 @@ entry-below rows base slots cells n c old new e =
     subst (λ x. x < cells) (same-cell _ _ _ _ c old new f.entry) f.below
 
 -- what is told of a row that does not read has nothing to do with later ones
-pub wrong_alone : (r : Row) (x : reasons.Reason) → r ≡ Wrong x → (n : ℕ) (a b : Fault) → fault_at n (reason_of r) a ≡ fault_at n (reason_of r) b
+pub wrong_alone : (r : Result code.Entry reasons.Reason) (x : reasons.Reason) → r ≡ Err x → (n : ℕ) (a b : Fault) → fault_at n (reason_of r) a ≡ fault_at n (reason_of r) b
 wrong_alone r x p n a b = ap (λ v. fault_at n (reason_of v) a) p ∙ sym (ap (λ v. fault_at n (reason_of v) b) p)

@@ -10,20 +10,19 @@ ghost use Rattle.row.specs.Row.{entry, meaning, reason_of};
 ghost use Rattle.journal.specs.Entries.{Rows, entry_in, wrong_in};
 
 use medium::layout::{index, row_at};
-use row::{Entry, Row};
+use row::{Entry, Reason};
 
 // The row that begins at a place, as entry n of a table of N cells.
-pub fn entry_from(rows: &[u8], at: usize, cells: u32, n: u32) -> Row
+pub fn entry_from(rows: &[u8], at: usize, cells: u32, n: u32) -> Result<Entry, Reason>
     requires { at + 32 ≤ length rows.now }
     ensures entry { meaning result ≡ read_row cells n (take 32 (drop at rows.now)) }
     ensures reason { reason_of result ≡ wrong_entry cells n (take 32 (drop at rows.now)) }
 {
-    let end = at + 32;
-    row::read_row(&rows[at..end], cells, n)
+    row::read_row(&rows[at..at + 32], cells, n)
 }
 
 // The row of entry n, of C rows that begin at a place, as that entry of a table of N cells.
-pub fn entry_at(rows: &[u8], base: usize, slots: u32, cells: u32, n: u32) -> Row
+pub fn entry_at(rows: &[u8], base: usize, slots: u32, cells: u32, n: u32) -> Result<Entry, Reason>
     requires { Rows rows.now base slots n }
     ensures entry { meaning result ≡ entry_in rows.now base slots cells n }
     ensures reason { reason_of result ≡ wrong_in rows.now base slots cells n }
@@ -44,10 +43,7 @@ pub fn next_row(slots: u32, at: usize) -> usize
     requires { at ≤ 32 * slots }
     ensures { (n : ℕ) → 0 < n → at ≡ 32 + row_at slots n → (result ≡ 32 + row_at slots (n + 1)) × (result ≤ 32 * slots) }
 {
-    if at == 32 * index(slots) {
-        return 32;
-    }
-    at + 32
+    if at == 32 * index(slots) { 32 } else { at + 32 }
 }
 
 // Entry n, built in its waiting row.
@@ -58,18 +54,11 @@ pub fn append(waiting: &mut [u8], slots: u32, n: u32, what: Entry)
     row::put_entry(waiting, row_at(slots, n), n, what);
 }
 
-// The waiting row of entry n, stored on the medium: four words.
+// The waiting row of entry n, stored on the medium.
 pub fn store_row(medium: &mut [u8], waiting: &[u8], slots: u32, n: u32)
     requires { (Rows medium.old 32 slots n) × (Rows waiting.now 0 slots n) }
     ensures { medium.new ≡ put medium.old (32 + row_at slots n) (take 32 (drop (row_at slots n) waiting.now)) }
 {
-    let from = row_at(slots, n);
-    let a = number::get8(waiting, from);
-    let b = number::get8(waiting, from + 8);
-    let c = number::get8(waiting, from + 16);
-    let d = number::get8(waiting, from + 24);
-    number::put8(medium, from + 32, a);
-    number::put8(medium, from + 40, b);
-    number::put8(medium, from + 48, c);
-    number::put8(medium, from + 56, d);
+    let at = row_at(slots, n);
+    medium[at + 32..at + 64].copy_from_slice(&waiting[at..at + 32]);
 }

@@ -11,11 +11,8 @@ use borrow.Author.Tests.{eqb-true, eqb-false, lt-ltb, le-ltb, le-leb, lt-leb, eq
 use lib.Dec.{eqb, ltb, leb}
 use lib.ListN.{length, get_or}
 use Rattle.scope.specs.Bytes.{pick, number_at}
-use Rattle.scope.specs.Row.{Entry, update, commit_entry, abort_entry, entry_of, read_row, Reason, too_short, other_number, unknown_kind, filler_not_zero, cell_out_of_range, cell_left, old_left, new_left, row_tests, first_reason, wrong_entry, faultless, fault, fault_at}
-use Rattle.row.specs.Row.{reason, reason_of, bare_end, left_over, unread_as, wrong_of}
-use Rattle.row.specs.declared.Row.{Row}
-use Rattle.row.specs.declared.Row.TheVariants.{Wrong}
-use Rattle.row.specs.declared.Reason as code
+use Rattle.scope.specs.Row.{Entry, update, commit_entry, abort_entry, entry_of, read_row, Reason, too_short, other_number, unknown_kind, filler_not_zero, cell_out_of_range, cell_left, old_left, new_left, row_tests, first_reason, wrong_entry}
+use Rattle.row.specs.Row.{bare_end, left_over, unread_as, wrong_of}
 use Rattle.number.proofs.Numbers.{number-suc, eight}
 
 -- an end, by cell, old and new
@@ -285,7 +282,3 @@ pub of_fields : (r : List ℕ) (k c a b k' c' a' b' : ℕ) (e : Option Entry) (x
     → k ≡ k' → c ≡ c' → a ≡ a' → b ≡ b' → (e ≡ entry_of k' c' a' b') × (x ≡ wrong_of r k' c' a' b')
 of_fields r k c a b k' c' a' b' e x f p q s t =
     (f.0 ∙ (λ i. entry_of (p i) (q i) (s i) (t i)), f.1 ∙ (λ i. wrong_of r (p i) (q i) (s i) (t i)))
-
--- what is told of a row that does not read
-pub wrong_at : (r : Row) (x : code.Reason) (n : ℕ) → r ≡ Wrong x → fault (reason x) n ≡ fault_at n (reason_of r) faultless
-wrong_at r x n e = sym (ap (λ t. fault_at n (reason_of t) faultless) e)

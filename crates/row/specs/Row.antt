@@ -1,16 +1,14 @@
 -- What the answer of reading a row means, and what is told of one.
-use Rattle.std.specs.Prelude.{ℕ, ◌&&◌, ◌||◌, not, List, [], ◌∷◌, eqb}
+use Rattle.std.specs.Prelude.{ℕ, ◌&&◌, ◌||◌, not, List, [], ◌∷◌, eqb, Result, Ok, Err, Some, None}
+use Rattle.std.specs.declared.option.Option as code_option
 use Rattle.std.proofs.Math.Option.{Option, none, some}
 use Rattle.scope.specs.Bytes.{pick, number_at}
 use Rattle.scope.specs.Row.{Entry, update, commit_entry, abort_entry, Reason, too_short, other_number, unknown_kind, filler_not_zero, cell_out_of_range, cell_left, old_left, new_left, not_update, hole, first_reason, Fault, faultless, fault}
-use Rattle.row.specs.declared.Row.{Row}
-use Rattle.row.specs.declared.Row.TheVariants.{Holds, Wrong}
 use Rattle.row.specs.declared.Entry as code
 use Rattle.row.specs.declared.Entry.TheVariants.{Update, Commit, Abort}
 use Rattle.row.specs.declared.Reason as reasons
 use Rattle.row.specs.declared.Reason.TheVariants.{TooShort, OtherNumber, UnknownKind, FillerNotZero, CellOutOfRange, CellLeft, OldLeft, NewLeft, NotUpdate, Hole}
 use Rattle.row.specs.declared.Fault as faults
-use Rattle.row.specs.declared.Fault.TheVariants.{None, At}
 
 abbrev pub entry : code.Entry → Entry
 entry (Update cell old new) = update cell old new
@@ -30,18 +28,22 @@ reason NotUpdate = not_update
 reason Hole = hole
 
 -- the entry, or nothing
-abbrev pub meaning : Row → Option Entry
-meaning (Holds e) = some (entry e)
-meaning (Wrong x) = none
+abbrev pub meaning : Result code.Entry reasons.Reason → Option Entry
+meaning (Ok e) = some (entry e)
+meaning (Err x) = none
 
 -- the first thing wrong, or nothing
-abbrev pub reason_of : Row → Option Reason
-reason_of (Holds e) = none
-reason_of (Wrong x) = some (reason x)
+abbrev pub reason_of : Result code.Entry reasons.Reason → Option Reason
+reason_of (Ok e) = none
+reason_of (Err x) = some (reason x)
 
-abbrev pub fault_of : faults.Fault → Fault
+-- what is told of rows: nothing, or a fault
+abbrev pub fault_in : faults.Fault → Fault
+fault_in w = fault (reason w.reason) w.entry
+
+abbrev pub fault_of : code_option.Option faults.Fault → Fault
+fault_of (Some w) = fault_in w
 fault_of None = faultless
-fault_of (At x n) = fault (reason x) n
 
 -- an end, whose cell, old and new are zero
 unfoldable pub bare_end : Entry → ℕ → ℕ → ℕ → Option Entry

@@ -13,21 +13,30 @@
 #![tactic(auto)]
 
 ghost use Rattle.std.specs.Prelude.{◌≡◌, ◌+◌, ◌<◌, ◌≤◌, length};
+ghost use Rattle.std.proofs.Math.Option.{some};
 ghost use Rattle.scope.specs.Bytes.{put};
-ghost use Rattle.scope.specs.Row.{row_bytes, entry_of, read_row, wrong_entry, faultless, fault_at, is_writable, write_row};
-ghost use Rattle.row.specs.Row.{entry, reason, meaning, reason_of, fault_of, bare_end, left_over, unread_as, wrong_of};
+ghost use Rattle.scope.specs.Row.{row_bytes, entry_of, read_row, wrong_entry, is_update, is_writable, write_row};
+ghost use Rattle.row.specs.Row.{entry, reason, meaning, reason_of, bare_end, left_over, unread_as, wrong_of};
 
 // An entry of the journal, without its number.
-#[derive(Clone, Copy)]
+#[derive(Clone, Copy, Debug, PartialEq, Eq)]
 pub enum Entry {
     Update { cell: u32, old: u64, new: u64 },
     Commit,
     Abort,
 }
 
+impl Entry {
+    pub fn is_update(self) -> bool
+        ensures { result ≡ is_update (some (entry self)) }
+    {
+        matches!(self, Entry::Update { .. })
+    }
+}
+
 // What is wrong with a row, in the order in which it is judged. "Not an update" is asked of the open transaction's rows alone; a hole is a
 // row that does not hold its number where a later one does, and recovery's alone.
-#[derive(Clone, Copy)]
+#[derive(Clone, Copy, Debug, PartialEq, Eq)]
 pub enum Reason {
     TooShort,
     OtherNumber,
@@ -41,44 +50,27 @@ pub enum Reason {
     Hole,
 }
 
-// What a row reads as: the entry, or the first thing wrong.
-#[derive(Clone, Copy)]
-pub enum Row {
-    Holds(Entry),
-    Wrong(Reason),
-}
-
-// What is told of rows: nothing, or what is wrong with one and the number of the entry expected there.
-#[derive(Clone, Copy)]
-pub enum Fault {
-    None,
-    At { reason: Reason, entry: u32 },
-}
-
-// The fault of a row that must be entry `entry`.
-pub fn fault_in(row: Row, entry: u32) -> Fault
-    ensures { fault_of result ≡ fault_at entry (reason_of row) faultless }
-{
-    match row {
-        Row::Holds(_) => Fault::None,
-        Row::Wrong(reason) => Fault::At { reason, entry },
-    }
+// What is told of rows: what is wrong with one, and the number of the entry expected there.
+#[derive(Clone, Copy, Debug, PartialEq, Eq)]
+pub struct Fault {
+    pub reason: Reason,
+    pub entry: u32,
 }
 
 // An end, in whose row cell, old and new are zero.
-pub fn ended(what: Entry, cell: u32, old: u64, new: u64) -> Row
+pub fn ended(what: Entry, cell: u32, old: u64, new: u64) -> Result<Entry, Reason>
     ensures { (meaning result ≡ bare_end (entry what) cell old new) × (reason_of result ≡ left_over cell old new) }
 {
     if cell != 0 {
-        return Row::Wrong(Reason::CellLeft);
+        return Err(Reason::CellLeft);
     }
     if old != 0 {
-        return Row::Wrong(Reason::OldLeft);
+        return Err(Reason::OldLeft);
     }
     if new != 0 {
-        return Row::Wrong(Reason::NewLeft);
+        return Err(Reason::NewLeft);
     }
-    Row::Holds(what)
+    Ok(what)
 }
 
 // What is wrong with a row, where it is the kind, the filler or the cell's range.
@@ -87,56 +79,46 @@ fn unread(row: &[u8]) -> Reason
     ensures { reason result ≡ unread_as row.now }
 {
     let kind = row[4];
-    if kind == 0 {
+    if kind == 0 || 3 < kind {
         return Reason::UnknownKind;
     }
-    if 3 < kind {
-        return Reason::UnknownKind;
-    }
-    if number::get4(row, 4) != kind as u32 {
-        return Reason::FillerNotZero;
-    }
-    if number::get4(row, 12) != 0 {
+    if number::get4(row, 4) != u32::from(kind) || number::get4(row, 12) != 0 {
         return Reason::FillerNotZero;
     }
     Reason::CellOutOfRange
 }
 
 // A row whose cell is in range, by the four bytes from its kind on.
-fn of_kind(row: &[u8], kind: u32, cell: u32, old: u64, new: u64) -> Row
+fn of_kind(row: &[u8], kind: u32, cell: u32, old: u64, new: u64) -> Result<Entry, Reason>
     requires { 32 ≤ length row.now }
     ensures { (meaning result ≡ entry_of kind cell old new) × (reason_of result ≡ wrong_of row.now kind cell old new) }
 {
     match kind {
-        1 => Row::Holds(Entry::Update { cell, old, new }),
+        1 => Ok(Entry::Update { cell, old, new }),
         2 => ended(Entry::Commit, cell, old, new),
         3 => ended(Entry::Abort, cell, old, new),
-        0 | 4..=4294967295 => Row::Wrong(unread(row)),
+        _ => Err(unread(row)),
     }
 }
 
 // Reads the first 32 bytes of a slice as entry `number` of a table of `cells` cells. Costs the row's bytes, once; a row that reads is
 // judged by words, and only in one that does not are kind, filler and cell told apart.
-pub fn read_row(row: &[u8], cells: u32, number: u32) -> Row
+pub fn read_row(row: &[u8], cells: u32, number: u32) -> Result<Entry, Reason>
     ensures entry { meaning result ≡ read_row cells number row.now }
     ensures reason { reason_of result ≡ wrong_entry cells number row.now }
 {
     if row.len() < 32 {
-        return Row::Wrong(Reason::TooShort);
+        return Err(Reason::TooShort);
     }
-    if number == 0 {
-        return Row::Wrong(Reason::OtherNumber);
-    }
-    let found = number::get4(row, 0);
-    if found != number {
-        return Row::Wrong(Reason::OtherNumber);
+    if number == 0 || number::get4(row, 0) != number {
+        return Err(Reason::OtherNumber);
     }
     // the kind byte with the three after it: only 1, 2 and 3 are kinds
     let kind = number::get4(row, 4);
     // the cell with the four bytes after it: below N only where those are zero
     let cell = number::get8(row, 8);
-    if cells as u64 <= cell {
-        return Row::Wrong(unread(row));
+    if u64::from(cells) <= cell {
+        return Err(unread(row));
     }
     let old = number::get8(row, 16);
     let new = number::get8(row, 24);
@@ -149,10 +131,7 @@ pub fn write_row(row: &mut [u8], number: u32, what: Entry) -> bool
     ensures written { result ≡ is_writable number row.old }
     ensures bytes { row.new ≡ write_row number (entry what) row.old }
 {
-    if row.len() < 32 {
-        return false;
-    }
-    if number == 0 {
+    if row.len() < 32 || number == 0 {
         return false;
     }
     put_entry(row, 0, number, what);

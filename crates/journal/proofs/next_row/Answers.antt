@@ -6,5 +6,5 @@ use Rattle.journal.proofs.next_row.Goals as goal
 pub returns-then-at-index : goal.returns-then-at-index
 returns-then-at-index c = λ n i e. row_turns _ c.args.at n i e (omega arith)
 
-pub returns : goal.returns
-returns c = λ n i e. row_follows _ c.args.at n i e (omega arith) (omega arith)
+pub returns-else-at-index : goal.returns-else-at-index
+returns-else-at-index c = λ n i e. row_follows _ c.args.at n i e (omega arith) (omega arith)

@@ -2,7 +2,6 @@
 use native.Mathlib.Omega.{arith}
 use Rattle.row.proofs.Reading.{of_update, of_commit, of_abort, of_unknown}
 use Rattle.row.proofs.of_kind.Goals as goal
-use Rattle.row.proofs.of_kind.Goals.{in-0-1, in_default-1}
 
 pub returns-in-1 : goal.returns-in-1
 returns-in-1 c = of_update _ _ _ _ _ (omega arith)
@@ -13,9 +12,5 @@ returns-in-2 c = of_commit _ _ _ _ _ _ _ c.ended.ensures.1 c.ended.ensures.0 (om
 pub returns-in-3 : goal.returns-in-3
 returns-in-3 c = of_abort _ _ _ _ _ _ _ c.ended-in-3.ensures.1 c.ended-in-3.ensures.0 (omega arith)
 
-pub returns-in-0 : goal.returns-in-0
-returns-in-0 c =
-    elim c.in-0-1.branch [
-      | in-0-1 w ↦ of_unknown _ _ _ _ _ (omega arith) (omega arith) (omega arith) _ c.unread.ensures
-      | in_default-1 w ↦ of_unknown _ _ _ _ _ (omega arith) (omega arith) (omega arith) _ c.unread.ensures
-    ]
+pub returns-in_default : goal.returns-in_default
+returns-in_default c = of_unknown _ _ _ _ _ (omega arith) (omega arith) (omega arith) _ c.unread.ensures

@@ -3,12 +3,17 @@ use native.Mathlib.Omega.{arith}
 use Rattle.row.specs.Row.{entry}
 use Rattle.row.proofs.Writing.{write_short, write_zero, write_entry}
 use Rattle.row.proofs.write_row.Goals as goal
+use Rattle.row.proofs.write_row.Goals.{then-row-lt32-via-then-row-lt32, then-row-lt32-via-else-row-lt32+then-number-eq0}
 
 pub returns-then-row-lt32 : goal.returns-then-row-lt32
-returns-then-row-lt32 c = record { written = (write_short _ (entry c.args.what) _ (omega arith)).0; bytes = (write_short _ (entry c.args.what) _ (omega arith)).1 }
-
-pub returns-then-number-eq0 : goal.returns-then-number-eq0
-returns-then-number-eq0 c = record { written = (write_zero _ (entry c.args.what) _ (omega arith) (omega arith)).0; bytes = (write_zero _ (entry c.args.what) _ (omega arith) (omega arith)).1 }
+returns-then-row-lt32 c =
+    elim c.then-row-lt32.branch [
+      | then-row-lt32-via-then-row-lt32 w ↦ let e = write_short c.args.number (entry c.args.what) c.args.row.now (omega arith) in record { written = e.0; bytes = e.1 }
+      | then-row-lt32-via-else-row-lt32+then-number-eq0 w ↦
+          let e = write_zero c.args.number (entry c.args.what) c.args.row.now (omega arith) (omega arith) in record { written = e.0; bytes = e.1 }
+    ]
 
 pub returns : goal.returns
-returns c = record { written = (write_entry _ _ _ _ (omega arith) (omega arith) c.put_entry.ensures).0; bytes = (write_entry _ _ _ _ (omega arith) (omega arith) c.put_entry.ensures).1 }
+returns c =
+    let e = write_entry c.args.number (entry c.args.what) c.args.row.now _ (omega arith) (omega arith) c.put_entry.ensures in
+    record { written = e.0; bytes = e.1 }

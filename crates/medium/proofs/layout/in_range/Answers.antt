@@ -1,16 +1,12 @@
--- `in_range` tests N and C: one case law for each way that it ends.
-use native.Mathlib.Omega.{arith}
-use Rattle.medium.proofs.Places.{no_cells, many_cells, few-slots, enough_slots}
+-- `in_range` tests N and C: the definition's four tests.
+use Rattle.std.proofs.Common.{rules, arith}
+use Rattle.scope.specs.Keeper.{in_range}
 use Rattle.medium.proofs.layout.in_range.Goals as goal
 
-pub returns-then-cells-lt1 : goal.returns-then-cells-lt1
-returns-then-cells-lt1 c = no_cells _ _ (omega arith)
+pub returns-then-slots-ge4 : goal.returns-then-slots-ge4
+unfolding in_range
+returns-then-slots-ge4 c = search rules
 
-pub returns-then-cells-gt1024 : goal.returns-then-cells-gt1024
-returns-then-cells-gt1024 c = many_cells _ _ (omega arith) (omega arith)
-
-pub returns-then-slots-lt4 : goal.returns-then-slots-lt4
-returns-then-slots-lt4 c = few-slots _ _ (omega arith) (omega arith) (omega arith)
-
-pub returns : goal.returns
-returns c = enough_slots _ _ (omega arith) (omega arith) (omega arith)
+pub returns-else-slots-ge4 : goal.returns-else-slots-ge4
+unfolding in_range
+returns-else-slots-ge4 c = grind arith

@@ -1,4 +1,4 @@
--- `lowest_differing` is the lowest cell that differs. Invariant: the search from cell i on has the answer of the whole search.
+-- `lowest_differing` is the lowest cell that differs: the search goes on at an equal one, ends at another, or at the table's end.
 use native.Mathlib.Omega.{arith}
 use Rattle.scope.specs.Keeper.{cell_at}
 use Rattle.medium.proofs.Cells.{differing_again, differing-found, differing-end}
@@ -12,17 +12,15 @@ pub get8-requires : goal.get8-requires
 unfolding cell_at
 get8-requires c = omega arith
 
-pub returns-then-current-i : goal.returns-then-current-i
-returns-then-current-i c =
+pub returns-then-value-get8 : goal.returns-then-value-get8
+returns-then-value-get8 c =
     differing-found c.args.current.now _ _ _ _ _ c.cell_at-base.ensures c.get8.ensures (omega arith) _
-    c.loop-i.invariant.1 c.if-current-i.true
+    c.loop-i.invariant c.if-value-get8.true
 
 pub loop-i-preserved : goal.loop-i-preserved
-loop-i-preserved c = (
-  omega arith,
-  differing_again c.args.current.now _ _ _ _ _ c.cell_at-base.ensures c.get8.ensures (omega arith) _
-      c.loop-i.invariant.1 c.if-current-i.false,
-)
+loop-i-preserved c =
+    differing_again c.args.current.now _ _ _ _ _ c.cell_at-base.ensures c.get8.ensures (omega arith) _
+    c.loop-i.invariant c.if-value-get8.false
 
 pub returns : goal.returns
-returns c = differing-end c.args.current.now _ _ c.loop-i.i (omega arith) _ c.loop-i.invariant.1
+returns c = differing-end c.args.current.now _ _ c.loop-i.i (omega arith) _ c.loop-i.invariant

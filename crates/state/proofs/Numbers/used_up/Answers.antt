@@ -1,6 +1,9 @@
--- `state::Numbers::used_up` meets its contract. The two numbers of the test.
-use Rattle.state.proofs.Soundness.{used_up_is}
+use Rattle.std.proofs.Common.{rules}
+use Rattle.scope.specs.Bytes.{max_no}
+use Rattle.scope.specs.Refusals.{used_up}
+use Rattle.state.specs.State.{state_of}
 use Rattle.state.proofs.Numbers.used_up.Goals as goal
 
 pub returns : goal.returns
-returns c = used_up_is _ _ _ _ c.index.ensures.0 c.open_count.ensures.0
+unfolding used_up state_of max_no
+returns c = search rules
