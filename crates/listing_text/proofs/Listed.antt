@@ -1,17 +1,16 @@
 -- What a recovery leaves, as text: N and C of the state are the head's, so the text of the outcome is the listing of the medium at first.
-use Prim.Native.Nat.{ℕ, ◌≤◌}
+use Prim.Native.Nat.{ℕ}
 use mathlib.Core.Path.{◌≡◌, refl, ◌∙◌}
 use mathlib.Core.List.{List}
 use native.Mathlib.Omega.{arith}
 use lib.ListN.{length}
 use Rattle.scope.specs.Bytes.{number_at}
 use Rattle.scope.specs.Recovery.{table_of}
-use Rattle.scope.proofs.TableCells.{length_table}
 use Rattle.state.specs.State.{state_of}
 use Rattle.recovery.specs.declared.Started.{Started}
 use Rattle.recovery.proofs.Recovering.{number-refused}
-use Rattle.text.specs.Text.{line, refused_key, or_refused, table_text, Wrote}
-use Rattle.text.proofs.Writing.{wrote_same, length-line, length_table_text}
+use Rattle.text.specs.Text.{line, refused_key, or_refused, table_text}
+use Rattle.text.proofs.Writing.{length_line_32}
 use Rattle.recovered.specs.Recovered.{started, recovered, Recovers}
 use Rattle.recovered.proofs.Sizes.{started_cases, recovered_sizes, recovers_sizes}
 use Rattle.listing_text.specs.Listing.{listing, outcome_text, OnMedium}
@@ -40,21 +39,13 @@ module _ (m : List ℕ) where
         (omega (arith, s.0.cells≤), omega (arith, s.0.long))
 
 -- the text of each outcome, and the room that it takes
+pub outcome_refused : (o : Started) (m : List ℕ) → (o.number ≡ 0 → ⊥) → outcome_text o m ≡ line refused_key o.number
+unfolding outcome_text
+outcome_refused o m h = simp (← number-refused o.number h)
 
-module _ (o : Started) (m : List ℕ) where
-  abbrev table : List ℕ
-  table = table_of o.numbers.cells o.numbers.slots m
+pub outcome_done : (o : Started) (m : List ℕ) → o.number ≡ 0
+    → outcome_text o m ≡ table_text o.numbers.cells o.numbers.slots o.numbers.h (table_of o.numbers.cells o.numbers.slots m)
+unfolding outcome_text
+outcome_done o m z = simp z
 
-  pub wrote_refused : {t t' : List ℕ} {r : ℕ} → (o.number ≡ 0 → ⊥) → Wrote t 0 (line refused_key o.number) t' r → 65536 ≤ length t
-      → Wrote t 0 (outcome_text o m) t' r × (r ≤ length t)
-  unfolding outcome_text
-  wrote_refused h w l = (wrote_same w (simp (← number-refused o.number h)), omega (arith, w.end, length-line refused_key o.number))
-
-  pub wrote_done : {t t' : List ℕ} {r : ℕ} → o.number ≡ 0
-      → Wrote t 0 (table_text o.numbers.cells o.numbers.slots o.numbers.h table) t' r → 65536 ≤ length t → OnMedium o m
-      → Wrote t 0 (outcome_text o m) t' r × (r ≤ length t)
-  unfolding outcome_text
-  wrote_done z w h f =
-      let l = length_table_text o.numbers.cells o.numbers.slots o.numbers.h table in
-      let c = length_table o.numbers.cells o.numbers.slots m in
-      (wrote_same w (simp z), omega (arith, w.end, (f z).0))
+pub ruleset outcome_lines = (length_line_32, outcome_refused, outcome_done)
