@@ -4,382 +4,254 @@
 pub mod say;
 pub mod show;
 
-ghost use Rattle.std.specs.Prelude.{◌≡◌, false};
+ghost use Rattle.std.specs.Prelude.{◌≡◌, Option};
+ghost use Rattle.orders.specs.Orders.{call_kind, kind_of, arity_of, given_of, sizes_order, kind_order, words_order, worded_order, order_of, write_order, about_file};
 ghost use Rattle.words.specs.Words.{word_number, word_release};
-ghost use Rattle.orders.specs.Orders.{told, number_order, write_order, sized_order, call_kind, kind_of, arity_of, given_of, sizes_order, words_order, worded_order, order_of};
 
-use console::Asked;
+use console::Call;
 use std::rt::HostRuntime;
-use words::{Parsed, Span};
+use words::{Input, Span};
 
-// The keeper's calls have the numbers that `console` gives them; these follow.
-pub const OPEN: u32 = 10;
+// What a line asks for: a call of the keeper's, several of them, or something of the terminal's own.
+#[derive(Clone, Copy, Debug, PartialEq, Eq)]
+pub enum Order {
+    Call(Call),
+    Recover,
+    Store,
+    // The file's name stands there in the line.
+    Open(Span),
+    New(Span),
+    // Whether a table may be erased stands last.
+    Format { cells: u32, slots: u32, erase: bool },
+    Look { entry: u32 },
+    List,
+    Help,
+    Quit,
+    // An empty line, or one that begins with #.
+    Nothing,
+}
 
-pub const FORMAT: u32 = 11;
+// What a line's first word names.
+#[derive(Clone, Copy, Debug, PartialEq, Eq)]
+pub enum Kind {
+    Begin,
+    Write,
+    Abort,
+    Commit,
+    Read,
+    Force,
+    Cut,
+    Back,
+    Step,
+    Start,
+    Open,
+    New,
+    Recover,
+    Store,
+    Format,
+    Look,
+    List,
+    Help,
+    Quit,
+}
 
-pub const LOOK: u32 = 12;
-
-pub const LIST: u32 = 13;
-
-pub const HELP: u32 = 14;
-
-pub const QUIT: u32 = 15;
-// An empty line, or one that begins with #.
-pub const NOTHING: u32 = 16;
-// A word that is none of these.
-pub const UNKNOWN: u32 = 17;
-// A line that does not fit.
-pub const LONG: u32 = 18;
-
-pub const NEW: u32 = 19;
-
-pub const RECOVER: u32 = 20;
-
-pub const STORE: u32 = 21;
+// Why a line is no order: its first word names nothing, it does not fit, or the words after the first are not what that wants.
+#[derive(Clone, Copy, Debug, PartialEq, Eq)]
+pub enum Wrong {
+    Word,
+    Line,
+    Words(Kind),
+}
 
 // The word that a format says where a table is to be erased, as a number.
 const ERASE: u64 = 435710686053;
 
-// A line's order: its kind; whether its words are not what that kind wants; two numbers; whether a table may be erased; a cell's value;
-// a file's name.
-#[derive(Clone, Copy)]
-pub struct Order {
-    pub kind: u32,
-    pub wrong: bool,
-    pub a: u32,
-    pub b: u32,
-    pub erase: bool,
-    pub value: u64,
-    pub name: Span,
+impl Order {
+    // Whether it is about a file that is open.
+    pub fn wants_file(self) -> bool
+        ensures { result ≡ about_file self }
+    {
+        matches!(
+            self,
+            Order::Call(_)
+                | Order::Recover
+                | Order::Store
+                | Order::Format { .. }
+                | Order::Look { .. }
+                | Order::List
+        )
+    }
 }
 
 // The call that a word names. Words are compared as numbers: `cut` is 6,518,132.
-fn call_kind(key: u64) -> u32
+#[tactic(auto, unfolding(crate::specs::Orders::call_kind))]
+fn call_kind(key: u64) -> Option<Kind>
     ensures { result ≡ call_kind key }
 {
     match key {
-        422608071022 => console::BEGIN,
-        513020621925 => console::WRITE,
-        418263298676 => console::ABORT,
-        109330228406644 => console::COMMIT,
-        1919246692 => console::READ,
-        439956431717 => console::FORCE,
-        6518132 => console::CUT,
-        1650549611 => console::BACK,
-        1937007984 => console::STEP,
-        495873782388 => console::START,
-        _ => UNKNOWN,
+        422608071022 => Some(Kind::Begin),
+        513020621925 => Some(Kind::Write),
+        418263298676 => Some(Kind::Abort),
+        109330228406644 => Some(Kind::Commit),
+        1919246692 => Some(Kind::Read),
+        439956431717 => Some(Kind::Force),
+        6518132 => Some(Kind::Cut),
+        1650549611 => Some(Kind::Back),
+        1937007984 => Some(Kind::Step),
+        495873782388 => Some(Kind::Start),
+        _ => None,
     }
 }
 
 // The kind that a first word names.
-fn kind_of(key: u64) -> u32
+#[tactic(auto, unfolding(crate::specs::Orders::kind_of))]
+fn kind_of(key: u64) -> Option<Kind>
     ensures { result ≡ kind_of key }
 {
     match key {
-        1869636974 => OPEN,
-        7234935 => NEW,
-        32199625091212658 => RECOVER,
-        495874699877 => STORE,
-        112628847174004 => FORMAT,
-        1819242347 => LOOK,
-        1818850164 => LIST,
-        1751477360 => HELP,
-        1903520116 => QUIT,
+        1869636974 => Some(Kind::Open),
+        7234935 => Some(Kind::New),
+        32199625091212658 => Some(Kind::Recover),
+        495874699877 => Some(Kind::Store),
+        112628847174004 => Some(Kind::Format),
+        1819242347 => Some(Kind::Look),
+        1818850164 => Some(Kind::List),
+        1751477360 => Some(Kind::Help),
+        1903520116 => Some(Kind::Quit),
         _ => call_kind(key),
     }
 }
 
-// How many words follow the first.
-fn arity(kind: u32) -> u32
-    ensures { result ≡ arity_of kind }
-{
-    if kind == console::WRITE {
-        return 3;
+impl Kind {
+    // How many words follow this one. A format's are counted by `format`.
+    fn arity(self) -> u32
+        ensures { result ≡ arity_of self }
+    {
+        match self {
+            Kind::Write => 3,
+            Kind::New | Kind::Open | Kind::Read | Kind::Back | Kind::Cut | Kind::Look => 1,
+            _ => 0,
+        }
     }
-    if kind == NEW {
-        return 1;
-    }
-    if kind == console::READ {
-        return 1;
-    }
-    if kind == console::BACK {
-        return 1;
-    }
-    if kind == console::CUT {
-        return 1;
-    }
-    if kind == LOOK {
-        return 1;
-    }
-    if kind == OPEN {
-        return 1;
-    }
-    0
 }
 
 // How many words of a line follow its first, as far as four.
 fn given(a: Span, b: Span, c: Span, d: Span) -> u32
     ensures { result ≡ given_of a b c d }
 {
-    if words::is_empty(a) {
-        return 0;
+    if a.is_empty() {
+        0
+    } else if b.is_empty() {
+        1
+    } else if c.is_empty() {
+        2
+    } else if d.is_empty() {
+        3
+    } else {
+        4
     }
-    if words::is_empty(b) {
-        return 1;
-    }
-    if words::is_empty(c) {
-        return 2;
-    }
-    if words::is_empty(d) {
-        return 3;
-    }
-    4
 }
 
-// A number as a part, cell, entry or size; `bad` where the word is none.
-#[derive(Clone, Copy)]
-pub struct Read {
-    n: u32,
-    bad: bool,
-}
-
-fn read_number(s: &[u8], w: Span) -> Read
-    ensures { told result ≡ word_number s.now w.from w.to }
+// A format: its two sizes, and the word `erase` or nothing.
+fn format(s: &[u8], given: u32, a: Span, b: Span, c: Span) -> Option<Order>
+    ensures { result ≡ sizes_order s.now given a b c }
 {
-    let x = words::number(s, w);
-    let Parsed::Is(n) = x else {
-        return Read { n: 0, bad: true };
-    };
-    Read {
-        n: (n % 4294967296) as u32,
-        bad: false,
+    let erase = given == 3 && words::key(s, c) == ERASE;
+    if given != 2 && !erase {
+        return None;
     }
-}
-
-fn read_release(s: &[u8], w: Span) -> Read
-    ensures { told result ≡ word_release s.now w.from w.to }
-{
-    let x = words::release(s, w);
-    let Parsed::Is(n) = x else {
-        return Read { n: 0, bad: true };
-    };
-    Read {
-        n: (n % 4294967296) as u32,
-        bad: false,
-    }
-}
-
-fn plain(kind: u32, wrong: bool, name: Span) -> Order
-    ensures { result ≡ record { kind = kind; wrong = wrong; a = 0; b = 0; erase = false; value = 0; name = name } }
-{
-    Order {
-        kind,
-        wrong,
-        a: 0,
-        b: 0,
-        erase: false,
-        value: 0,
-        name,
-    }
-}
-
-// An order with one number.
-fn numbered(s: &[u8], kind: u32, a: Span) -> Order
-    ensures { result ≡ number_order kind (word_number s.now a.from a.to) a }
-{
-    let x = read_number(s, a);
-    if x.bad {
-        return plain(kind, true, a);
-    }
-    Order {
-        kind,
-        wrong: false,
-        a: x.n,
-        b: 0,
-        erase: false,
-        value: 0,
-        name: a,
-    }
-}
-
-// A format: cells and rows.
-fn sized(s: &[u8], a: Span, b: Span, erase: bool) -> Order
-    ensures { result ≡ sized_order erase (word_number s.now a.from a.to) (word_number s.now b.from b.to) a }
-{
-    let x = read_number(s, a);
-    if x.bad {
-        return plain(FORMAT, true, a);
-    }
-    let y = read_number(s, b);
-    if y.bad {
-        return plain(FORMAT, true, a);
-    }
-    Order {
-        kind: FORMAT,
-        wrong: false,
-        a: x.n,
-        b: y.n,
+    let cells = words::number(s, a)?;
+    let slots = words::number(s, b)?;
+    Some(Order::Format {
+        cells,
+        slots,
         erase,
-        value: 0,
-        name: a,
-    }
+    })
 }
 
 // A write: its cell, part and release.
-fn written(s: &[u8], a: Span, b: Span, c: Span) -> Order
-    ensures { result ≡ write_order (word_number s.now a.from a.to) (word_number s.now b.from b.to) (word_release s.now c.from c.to) a }
+fn write(s: &[u8], a: Span, b: Span, c: Span) -> Option<Order>
+    ensures { result ≡ write_order (word_number s.now a.from a.to) (word_number s.now b.from b.to) (word_release s.now c.from c.to) }
 {
-    let x = read_number(s, a);
-    if x.bad {
-        return plain(console::WRITE, true, a);
-    }
-    let y = read_number(s, b);
-    if y.bad {
-        return plain(console::WRITE, true, a);
-    }
-    let z = read_release(s, c);
-    if z.bad {
-        return plain(console::WRITE, true, a);
-    }
-    Order {
-        kind: console::WRITE,
-        wrong: false,
-        a: x.n,
-        b: 0,
-        erase: false,
-        value: y.n as u64 + 4294967296 * (z.n as u64),
-        name: a,
+    let cell = words::number(s, a)?;
+    let part = words::number(s, b)?;
+    let release = words::release(s, c)?;
+    let value = u64::from(part) + 4294967296 * u64::from(release);
+    Some(Order::Call(Call::Write { cell, value }))
+}
+
+// The order of a kind that as many words follow as it has: it stands alone, or with a file's name, or with numbers.
+#[tactic(auto, unfolding(crate::specs::Orders::kind_order))]
+fn of_kind(s: &[u8], kind: Kind, a: Span, b: Span, c: Span) -> Option<Order>
+    ensures { result ≡ kind_order s.now kind a b c }
+{
+    match kind {
+        Kind::Begin => Some(Order::Call(Call::Begin)),
+        Kind::Write => write(s, a, b, c),
+        Kind::Abort => Some(Order::Call(Call::Abort)),
+        Kind::Commit => Some(Order::Call(Call::Commit)),
+        Kind::Read => words::number(s, a).map(|cell| Order::Call(Call::Read { cell })),
+        Kind::Force => Some(Order::Call(Call::Force)),
+        Kind::Cut => words::number(s, a).map(|entry| Order::Call(Call::Cut { entry })),
+        Kind::Back => words::number(s, a).map(|cell| Order::Call(Call::WriteBack { cell })),
+        Kind::Step => Some(Order::Call(Call::Step)),
+        Kind::Start => Some(Order::Call(Call::Start)),
+        Kind::Open => Some(Order::Open(a)),
+        Kind::New => Some(Order::New(a)),
+        Kind::Recover => Some(Order::Recover),
+        Kind::Store => Some(Order::Store),
+        Kind::Look => words::number(s, a).map(|entry| Order::Look { entry }),
+        Kind::List => Some(Order::List),
+        Kind::Help => Some(Order::Help),
+        Kind::Quit => Some(Order::Quit),
+        Kind::Format => None,
     }
 }
 
-// A format's words: two sizes, and the word `erase` or nothing.
-fn with_sizes(s: &[u8], count: u32, a: Span, b: Span, c: Span) -> Order
-    ensures { result ≡ sizes_order s.now count a b c }
+// The order of a kind with the words that follow it, or none where they are not what it wants.
+fn with_words(s: &[u8], kind: Kind, given: u32, a: Span, b: Span, c: Span) -> Option<Order>
+    ensures { result ≡ words_order s.now kind given a b c }
 {
-    if count == 2 {
-        return sized(s, a, b, false);
+    match kind {
+        Kind::Format => format(s, given, a, b, c),
+        _ if given == kind.arity() => of_kind(s, kind, a, b, c),
+        _ => None,
     }
-    if count != 3 {
-        return plain(FORMAT, true, a);
-    }
-    if words::key(s, c) == ERASE {
-        return sized(s, a, b, true);
-    }
-    plain(FORMAT, true, a)
-}
-
-fn with_words(s: &[u8], kind: u32, count: u32, a: Span, b: Span, c: Span) -> Order
-    ensures { result ≡ words_order s.now kind count a b c }
-{
-    let n = arity(kind);
-    if count != n {
-        return plain(kind, true, a);
-    }
-    if n == 0 {
-        return plain(kind, false, a);
-    }
-    if kind == OPEN {
-        return plain(kind, false, a);
-    }
-    if kind == NEW {
-        return plain(kind, false, a);
-    }
-    if kind == console::WRITE {
-        return written(s, a, b, c);
-    }
-    numbered(s, kind, a)
 }
 
 // The order of a line that is not empty.
-fn worded(s: &[u8], first: Span) -> Order
+#[tactic(auto, unfolding(crate::specs::Orders::worded_order))]
+fn worded(s: &[u8], first: Span) -> Result<Order, Wrong>
     ensures { result ≡ worded_order s.now first }
 {
-    let kind = kind_of(words::key(s, first));
+    let kind = kind_of(words::key(s, first)).ok_or(Wrong::Word)?;
     let a = words::word_after(s, first.to);
     let b = words::word_after(s, a.to);
     let c = words::word_after(s, b.to);
     let d = words::word_after(s, c.to);
-    if kind == UNKNOWN {
-        return plain(kind, true, first);
-    }
-    let count = given(a, b, c, d);
-    if kind == FORMAT {
-        return with_sizes(s, count, a, b, c);
-    }
-    with_words(s, kind, count, a, b, c)
+    with_words(s, kind, given(a, b, c, d), a, b, c).ok_or(Wrong::Words(kind))
 }
 
 // The order of a line.
-pub fn parse(s: &[u8]) -> Order
+pub fn parse(s: &[u8]) -> Result<Order, Wrong>
     ensures { result ≡ order_of s.now }
 {
     let first = words::word_after(s, 0);
-    if words::is_empty(first) {
-        return plain(NOTHING, false, first);
-    }
-    if words::byte(s, 0) == b'#' {
-        return plain(NOTHING, false, first);
+    if first.is_empty() || s.starts_with(b"#") {
+        return Ok(Order::Nothing);
     }
     worded(s, first)
 }
 
 // The next line's order.
-pub fn next(rt: HostRuntime, line: &mut [u8]) -> Order {
+pub fn next(rt: HostRuntime, line: &mut [u8]) -> Result<Order, Wrong> {
     say::prompt(rt);
-    let n = words::read_line(line);
-    let none = Span { from: 0, to: 0 };
-    if n == words::END {
-        return plain(QUIT, false, none);
+    match words::read_line(line) {
+        Input::End => Ok(Order::Quit),
+        Input::Long => Err(Wrong::Line),
+        Input::Line(n) => {
+            let text = &line[..n];
+            parse(text.strip_suffix(b"\r").unwrap_or(text))
+        }
     }
-    if line.len() < n {
-        return plain(LONG, true, none);
-    }
-    let end = words::without_return(line, n);
-    parse(&line[0..end])
-}
-
-// The call that an order asks for.
-pub fn asked(order: Order) -> Asked
-    ensures { result ≡ record { call = order.kind; cell = order.a; value = order.value; entry = order.a } }
-{
-    Asked {
-        call: order.kind,
-        cell: order.a,
-        value: order.value,
-        entry: order.a,
-    }
-}
-
-// Whether an order is one for the keeper: one of its calls, or several of them.
-pub fn is_keepers(kind: u32) -> bool {
-    if kind == RECOVER {
-        return true;
-    }
-    if kind == STORE {
-        return true;
-    }
-    kind < OPEN
-}
-
-// Whether an order is about a file that is open.
-pub fn wants_file(kind: u32) -> bool {
-    if kind == FORMAT {
-        return true;
-    }
-    if kind == LOOK {
-        return true;
-    }
-    if kind == LIST {
-        return true;
-    }
-    is_keepers(kind)
-}
-
-// Whether an order's word stands alone.
-pub fn alone(kind: u32) -> bool {
-    if kind == FORMAT {
-        return false;
-    }
-    arity(kind) == 0
 }

@@ -1,15 +1,12 @@
 // Showing what stands on the medium.
 use crate::say;
-use crate::say::STDOUT_FILENO;
+use crate::say::{Cause, STDOUT_FILENO};
 use keeper::State;
 use row::Fault;
 
 // A number of the head, for sizes; 0 of a medium without one.
 pub fn head_number(medium: &[u8], at: usize) -> usize {
-    if 28 < at {
-        return 0;
-    }
-    if medium.len() < 32 {
+    if at > 28 || medium.len() < 32 {
         return 0;
     }
     number::get4(medium, at) as usize
@@ -17,48 +14,38 @@ pub fn head_number(medium: &[u8], at: usize) -> usize {
 
 // The length of the waiting rows that the head asks for, never more than the most.
 pub fn row_bytes(medium: &[u8]) -> usize {
-    32 * words::least(head_number(medium, 4), 1024)
+    32 * head_number(medium, 4).min(1024)
 }
 
-// A cell of the table, where it is not empty.
-fn cell(table: &[u8], i: usize) {
-    if 1024 < i {
-        return;
-    }
-    if table.len() < 8 * i + 8 {
-        return;
-    }
-    let v = number::get8(table, 8 * i);
-    if v == 0 {
-        return;
-    }
-    say::pair(b"cell=", i as u64);
-    say::value(v);
-}
-
+// The table's cells that are not empty.
 fn cells(table: &[u8]) {
-    let n = table.len() / 8;
-    let mut i = 0;
-    while i < n {
-        cell(table, i);
-        i += 1;
+    for (i, cell) in table.chunks_exact(8).enumerate().take(1025) {
+        let value = number::get8(cell, 0);
+        if value != 0 {
+            say::pair(b"cell=", i as u64);
+            say::value(value);
+        }
     }
+}
+
+// What the file holds of a medium in memory of the most that one has.
+fn within(medium: &[u8], size: usize) -> &[u8] {
+    medium.get(..size).unwrap_or(medium)
 }
 
 // Why a call on this medium is refused with 1.
-fn cause_of(medium: &[u8]) -> u32 {
-    if medium.len() == 0 {
-        return say::EMPTY;
+fn cause_of(medium: &[u8]) -> Cause {
+    if medium.is_empty() {
+        Cause::Empty
+    } else if medium::head::table_view_number(medium) != 0 {
+        Cause::NoMedium
+    } else {
+        Cause::NoRecovery
     }
-    if medium::head::table_view_number(medium) != 0 {
-        return say::NO_MEDIUM;
-    }
-    say::NO_RECOVERY
 }
 
-pub fn cause(medium: &[u8], size: usize) -> u32 {
-    let m = words::least(size, medium.len());
-    cause_of(&medium[0..m])
+pub fn cause(medium: &[u8], size: usize) -> Cause {
+    cause_of(within(medium, size))
 }
 
 // A refusal of a call on this medium.
@@ -70,9 +57,9 @@ pub fn refused(n: u32, fault: Fault, medium: &[u8]) -> bool {
 }
 
 // The table as it stands on the medium, in the listing's form.
-fn list_of(medium: &[u8]) -> bool {
-    let no = medium::head::table_view_number(medium);
-    if no != 0 {
+pub fn list(medium: &[u8], size: usize) -> bool {
+    let medium = within(medium, size);
+    if medium::head::table_view_number(medium) != 0 {
         return say::unfit(cause_of(medium));
     }
     say::pair(b"cells=", head_number(medium, 0) as u64);
@@ -82,22 +69,17 @@ fn list_of(medium: &[u8]) -> bool {
     say::say(b"answer=0\n")
 }
 
-pub fn list(medium: &[u8], size: usize) -> bool {
-    let m = words::least(size, medium.len());
-    list_of(&medium[0..m])
-}
-
 // Bytes, two digits each.
 fn hex(part: &[u8]) {
-    let n = part.len();
-    let mut i = 0;
-    while i < n {
-        io::print_hex(STDOUT_FILENO, words::byte(part, i) as u64, 2);
-        i += 1;
+    for &b in part {
+        io::print_hex(STDOUT_FILENO, u64::from(b), 2);
     }
 }
 
-fn look_at<'a>(state: State, n: u32, medium: &'a [u8], waiting: &'a [u8]) -> bool {
+// An entry's 32 bytes, where they stand.
+pub fn look(state: State, n: u32, medium: &[u8], waiting: &[u8], size: usize) -> bool {
+    let waiting = within(waiting, row_bytes(medium));
+    let medium = within(medium, size);
     let no = state.look_number(n, medium, waiting);
     if no != 0 {
         return refused(no, Fault::None, medium);
@@ -105,11 +87,4 @@ fn look_at<'a>(state: State, n: u32, medium: &'a [u8], waiting: &'a [u8]) -> boo
     say::say(b"entry=");
     hex(state.look(n, medium, waiting));
     say::say(b"\nanswer=0\n")
-}
-
-// An entry's 32 bytes, where they stand.
-pub fn look<'a>(state: State, n: u32, medium: &'a [u8], waiting: &'a [u8], size: usize) -> bool {
-    let m = words::least(size, medium.len());
-    let w = words::least(row_bytes(medium), waiting.len());
-    look_at(state, n, &medium[0..m], &waiting[0..w])
 }

@@ -1,15 +1,15 @@
 -- What a word of a line is as a number and as a release. A line is its bytes; a place past its end holds 0, which is no digit and no point.
-use Rattle.std.specs.Prelude.{ℕ, zero, suc, ◌+◌, ◌*◌, ◌-◌, Bool, ◌&&◌, not, List, leb, ltb, eqb, length, get_or}
-use Rattle.std.proofs.Math.Option.{Option, none, some}
+use Rattle.std.specs.Prelude.{ℕ, zero, suc, ◌+◌, ◌*◌, ◌-◌, ◌≤◌, Bool, ◌&&◌, not, List, Option, None, Some, leb, ltb, eqb, length, get_or, ⊤}
 use Rattle.scope.specs.Bytes.{pick}
 use Rattle.words.specs.declared.Span.{Span}
-use Rattle.words.specs.declared.Parsed.{Parsed}
-use Rattle.words.specs.declared.Parsed.TheVariants.{Is, Not}
+use Rattle.words.specs.declared.Input.{Input}
+use Rattle.words.specs.declared.Input.TheVariants.{Line, Long, End}
 
--- what `Parsed` means
-abbrev pub parsed : Parsed → Option ℕ
-parsed (Is n) = some n
-parsed Not = none
+-- a line that was read is no longer than the buffer that it stands in
+abbrev pub fits : Input → ℕ → Type 0
+fits (Line n) size = n ≤ size
+fits Long size = ⊤
+fits End size = ⊤
 
 -- "0" to "9"
 unfoldable pub is_digit : ℕ → Bool
@@ -21,13 +21,13 @@ more n b = n * 10 + (b - 48)
 
 -- the k bytes from i on as decimal digits after n: none where one is no digit, or where the number is not below 2^32
 unfoldable pub digits : ℕ → List ℕ → ℕ → ℕ → Option ℕ
-digits zero s i n = some n
+digits zero s i n = Some n
 digits (suc k) s i n =
-    pick (is_digit (get_or s i 0) && leb (more n (get_or s i 0)) 4294967295) (digits k s (i + 1) (more n (get_or s i 0))) none
+    pick (is_digit (get_or s i 0) && leb (more n (get_or s i 0)) 4294967295) (digits k s (i + 1) (more n (get_or s i 0))) None
 
 -- THE NUMBER that the word from `from` to `to` is
 unfoldable pub word_number : List ℕ → ℕ → ℕ → Option ℕ
-word_number s from to = pick (ltb from to) (digits (to - from) s from 0) none
+word_number s from to = pick (ltb from to) (digits (to - from) s from 0) None
 
 -- the first of the k places from i on whose byte is as t says, or the place after them
 unfoldable pub place_in : (ℕ → Bool) → ℕ → List ℕ → ℕ → ℕ
@@ -64,12 +64,12 @@ word_key s w = key_in (w.to - w.from) s w.from 0
 
 -- major and minor, numbers of their own below 2^16, as a cell holds them: 1.10 is not 1.1, and comes after 1.9
 abbrev pub joined_release : Option ℕ → Option ℕ → Option ℕ
-joined_release none b = none
-joined_release (some major) none = none
-joined_release (some major) (some minor) = pick (leb major 65535 && leb minor 65535) (some (major + 65536 * minor)) none
+joined_release None b = None
+joined_release (Some major) None = None
+joined_release (Some major) (Some minor) = pick (leb major 65535 && leb minor 65535) (Some (major + 65536 * minor)) None
 
 -- THE RELEASE that the word is: a number, a point, a number
 unfoldable pub word_release : List ℕ → ℕ → ℕ → Option ℕ
 word_release s from to =
     let p = place_in is_point (to - from) s from in
-    pick (ltb p to) (joined_release (word_number s from p) (word_number s (p + 1) to)) none
+    pick (ltb p to) (joined_release (word_number s from p) (word_number s (p + 1) to)) None

@@ -1,13 +1,20 @@
 -- `orders::parse` is the line's order.
-use Rattle.orders.proofs.Lines.{line_empty, line_comment, line_worded}
-use native.Mathlib.Omega.{arith}
+use Rattle.std.proofs.Common.{arith}
+use Rattle.std.proofs.lemmas.Bool.Decides.{nat_tests}
+use Rattle.orders.specs.Orders.{order_of}
+use Rattle.orders.proofs.Lines.{starts_with-one}
 use Rattle.orders.proofs.parse.Goals as goal
+use Rattle.orders.proofs.parse.Goals.{then-is_empty-via-then-is_empty, then-is_empty-via-else-is_empty+then-starts_with}
 
 pub returns-then-is_empty : goal.returns-then-is_empty
-returns-then-is_empty c = line_empty _ _ _ c.word_after-first.ensures _ c.is_empty.ensures c.if-is_empty.true c.plain.ensures
-
-pub returns-then-byte-eq35 : goal.returns-then-byte-eq35
-returns-then-byte-eq35 c = line_comment _ _ _ c.word_after-first.ensures _ _ c.is_empty.ensures c.if-is_empty.false c.byte.ensures (omega arith) c.plain-then-byte-eq35.ensures
+unfolding order_of
+returns-then-is_empty c =
+    let e = starts_with-one c.args.s.now in
+    elim c.then-is_empty.branch [
+      | then-is_empty-via-then-is_empty w ↦ grind (arith, nat_tests)
+      | then-is_empty-via-else-is_empty+then-starts_with w ↦ grind (arith, nat_tests)
+    ]
 
 pub returns : goal.returns
-returns c = line_worded _ _ _ c.word_after-first.ensures _ _ c.is_empty.ensures c.if-is_empty.false c.byte.ensures (λ z. omega arith) c.worded.ensures
+unfolding order_of
+returns c = let e = starts_with-one c.args.s.now in grind (arith, nat_tests)

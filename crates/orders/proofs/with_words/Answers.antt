@@ -1,22 +1,20 @@
 -- `orders::with_words`: each way is one of the definition's.
-use Rattle.orders.proofs.Lines.{words_wrong, words_alone, words_open, words_new, words_write, words_number}
-use native.Mathlib.Omega.{arith}
+use Rattle.std.proofs.Common.{arith}
+use Rattle.std.proofs.lemmas.Bool.Decides.{nat_tests}
+use Rattle.orders.specs.Orders.{words_order}
+use Rattle.orders.proofs.Lines.{words_order-other}
 use Rattle.orders.proofs.with_words.Goals as goal
 
-pub returns-then-count-n : goal.returns-then-count-n
-returns-then-count-n c = words_wrong _ _ _ _ _ _ _ _ c.arity-n.ensures (λ z. omega arith) c.plain.ensures
+pub returns-in-Format : goal.returns-in-Format
+unfolding words_order
+returns-in-Format c = rw c.in-Format.is c.format.ensures
 
-pub returns-then-n-eq0 : goal.returns-then-n-eq0
-returns-then-n-eq0 c = words_alone _ _ _ _ _ _ _ _ c.arity-n.ensures (omega arith) (omega arith) c.plain-then-n-eq0.ensures
+pub returns-in_default : goal.returns-in_default
+returns-in_default c =
+    let e = words_order-other c.args.s.now c.args.kind c.args.given c.args.a c.args.b c.args.c c.in_default.not-Format in
+    grind (arith, nat_tests)
 
-pub returns-then-kind-eq-OPEN : goal.returns-then-kind-eq-OPEN
-returns-then-kind-eq-OPEN c = words_open _ _ _ _ _ _ _ _ c.arity-n.ensures (omega arith) (λ z. omega arith) (omega arith) c.plain-then-kind-eq-OPEN.ensures
-
-pub returns-then-kind-eq-NEW : goal.returns-then-kind-eq-NEW
-returns-then-kind-eq-NEW c = words_new _ _ _ _ _ _ _ _ c.arity-n.ensures (omega arith) (λ z. omega arith) (λ z. omega arith) (omega arith) c.plain-then-kind-eq-NEW.ensures
-
-pub returns-then-kind-eq-WRITE : goal.returns-then-kind-eq-WRITE
-returns-then-kind-eq-WRITE c = words_write _ _ _ _ _ _ _ _ c.arity-n.ensures (omega arith) (λ z. omega arith) (λ z. omega arith) (λ z. omega arith) (omega arith) c.written.ensures
-
-pub returns : goal.returns
-returns c = words_number _ _ _ _ _ _ _ _ c.arity-n.ensures (omega arith) (λ z. omega arith) (λ z. omega arith) (λ z. omega arith) (λ z. omega arith) c.numbered.ensures
+pub returns-in_default-2 : goal.returns-in_default-2
+returns-in_default-2 c =
+    let e = words_order-other c.args.s.now c.args.kind c.args.given c.args.a c.args.b c.args.c c.in_default-2.not-Format in
+    grind (arith, nat_tests)

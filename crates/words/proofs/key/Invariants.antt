@@ -5,7 +5,4 @@ use Rattle.words.specs.Words.{key_in}
 use Rattle.words.proofs.key.Given as goal
 
 abbrev pub invariant-loop-i : goal.invariant-loop-i
-invariant-loop-i l = key_in (l.to - l.initial.i) l.s l.initial.i 0 ≡ key_in (l.to - l.i) l.s l.i l.k
-
-abbrev pub decreases-loop-i : goal.decreases-loop-i
-decreases-loop-i l = l.to - l.i
+invariant-loop-i l = key_in (l.fn.w.to - l.fn.w.from) l.s l.fn.w.from 0 ≡ key_in (l.fn.w.to - l.i) l.s l.i l.k

@@ -1,23 +1,33 @@
 -- `words::number` is the word's number. By the digits that remain: those from the start after 0 give what those from i on after n give.
-use mathlib.Core.Path.{◌∙◌}
 use native.Mathlib.Omega.{arith}
-use Rattle.words.proofs.Digits.{digits_low, digits_high, digits_large, digits_more, digits-end, number-none, number_is}
+use Rattle.std.proofs.lemmas.Bool.Decides.{nat_tests}
+use Rattle.words.specs.Words.{word_number}
+use Rattle.words.proofs.Digits.{digits-next, digits-end}
 use Rattle.words.proofs.number.Goals as goal
 
-pub returns-then-to-i : goal.returns-then-to-i
-returns-then-to-i c = number-none _ _ _ (omega arith)
+pub returns-then-is_empty : goal.returns-then-is_empty
+unfolding word_number
+returns-then-is_empty c = grind (arith, nat_tests)
 
-pub returns-then-d-lt48 : goal.returns-then-d-lt48
-returns-then-d-lt48 c = number_is _ _ _ _ (omega arith) (c.loop-i.invariant.3 ∙ digits_low _ _ _ _ (omega arith) (omega arith))
+pub returns-then-not-is_ascii_digit : goal.returns-then-not-is_ascii_digit
+unfolding word_number
+returns-then-not-is_ascii_digit c =
+    let e = digits-next c.args.s.now c.loop-i.i c.args.w.to c.loop-i.n c.loop-i-test.true in grind (arith, nat_tests)
 
-pub returns-then-d-gt57 : goal.returns-then-d-gt57
-returns-then-d-gt57 c = number_is _ _ _ _ (omega arith) (c.loop-i.invariant.3 ∙ digits_high _ _ _ _ (omega arith) (omega arith) (omega arith))
+pub returns-in_err-checked_mul : goal.returns-in_err-checked_mul
+unfolding word_number
+returns-in_err-checked_mul c =
+    let e = digits-next c.args.s.now c.loop-i.i c.args.w.to c.loop-i.n c.loop-i-test.true in grind (arith, nat_tests)
 
-pub returns-then-n-gt4294967295 : goal.returns-then-n-gt4294967295
-returns-then-n-gt4294967295 c = number_is _ _ _ _ (omega arith) (c.loop-i.invariant.3 ∙ digits_large _ _ _ _ (omega arith) _ (omega arith) (omega arith) (omega arith) c.if-n-gt4294967295.true)
+pub returns-in_err-n : goal.returns-in_err-n
+unfolding word_number
+returns-in_err-n c =
+    let e = digits-next c.args.s.now c.loop-i.i c.args.w.to c.loop-i.n c.loop-i-test.true in grind (arith, nat_tests)
 
 pub loop-i-preserved : goal.loop-i-preserved
-loop-i-preserved c = (omega arith, omega arith, omega arith, c.loop-i.invariant.3 ∙ digits_more _ _ _ _ (omega arith) _ (omega arith) (omega arith) (omega arith) (omega arith))
+loop-i-preserved c =
+    let e = digits-next c.args.s.now c.loop-i.i c.args.w.to c.loop-i.n c.loop-i-test.true in grind (arith, nat_tests)
 
 pub returns : goal.returns
-returns c = number_is _ _ _ _ (omega arith) (c.loop-i.invariant.3 ∙ digits-end _ _ _ _ (omega arith))
+unfolding word_number
+returns c = let e = digits-end c.args.s.now c.loop-i.i c.args.w.to c.loop-i.n (omega arith) in grind (arith, nat_tests)

@@ -1,9 +1,0 @@
--- `orders::show::hex` meets its contract. It ends: the bytes that are left fall.
-use Prim.Native.Nat.{◌-◌}
-use Rattle.orders.proofs.show.hex.Given as goal
-
-abbrev pub invariant-loop-i : goal.invariant-loop-i
-invariant-loop-i l = Unit {0}
-
-abbrev pub decreases-loop-i : goal.decreases-loop-i
-decreases-loop-i l = l.n - l.i
