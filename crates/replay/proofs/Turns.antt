@@ -2,7 +2,7 @@
 use Prim.Native.Nat.{ℕ, suc, ◌+◌, ◌-◌, ◌≤◌, ◌<◌}
 use Rattle.std.specs.Prelude.{min}
 use mathlib.Core.Path.{◌≡◌, refl, sym, ap, ◌∙◌}
-use mathlib.Core.Bool.{Bool, true, false, false≢true}
+use mathlib.Core.Bool.{Bool, true, false}
 use mathlib.Core.List.{List, []}
 use mathlib.Core.Option.{Option, none, some}
 use native.Mathlib.Omega.{arith}
@@ -10,36 +10,13 @@ use borrow.Author.Tests.{leb-true, leb-false, eq-eqb, ne_eqb}
 use lib.Dec.{leb}
 use lib.ListN.{length, set, take, drop}
 use Rattle.scope.specs.Bytes.{pick, max_no, number_at}
-use Rattle.scope.specs.Row.{Entry, update, commit_entry, abort_entry, is_update, Reason, Fault, faultless, fault, fault_at, lowest_fault, hole, wrong_entry}
+use Rattle.scope.specs.Row.{Entry, update, commit_entry, abort_entry, Reason, Fault, faultless, fault, fault_at, lowest_fault, hole, wrong_entry}
 use Rattle.scope.specs.Recovery.{rows_of, also, any_holds, entries_from, at_most, journal, fault_from, journal_fault}
-use Rattle.row.specs.Row.{meaning}
-use Rattle.std.specs.Prelude.{Result, Ok}
-use Rattle.row.specs.declared.Entry.TheVariants.{Update}
-use Rattle.row.specs.declared.Entry as code
-use Rattle.row.specs.declared.Reason as reasons
 use Rattle.scope.specs.Keeper.{row_at}
 use Rattle.journal.specs.Entries.{entry_in, wrong_in}
-use Rattle.journal.proofs.Meanings.{is_end}
 use Rattle.replay.specs.Replay.{last_of, undo_entry, undo_from, replay_entry, open_after, onward, replay_from}
 
--- an entry that is no update undoes nothing
-
-undo-other : (o : Option Entry) (t : List ℕ) → false ≡ is_update o → t ≡ undo_entry o t
-undo-other none t h = refl
-undo-other (some (update c old new)) t h = absurd (false≢true h)
-undo-other (some commit_entry) t h = refl
-undo-other (some abort_entry) t h = refl
-
-pub undo-end : (x : Result code.Entry reasons.Reason) (o : Option Entry) → meaning x ≡ o → (w : code.Entry) → x ≡ Ok w → (t : List ℕ) → ((c old new : ℕ) → w ≡ Update c old new → ⊥) → t ≡ undo_entry o t
-undo-end x o m w p t h = undo-other o t (is_end x o m w p h)
-
--- one entry undone, replayed
-
-pub undo_nothing : (r : Option Entry) (t : List ℕ) → none ≡ r → t ≡ undo_entry r t
-undo_nothing r t p = ap (λ z. undo_entry z t) p
-
-pub undo-update : (r : Option Entry) (t : List ℕ) (i c old new : ℕ) → some (update c old new) ≡ r → i ≡ c → set t i old ≡ undo_entry r t
-undo-update r t i c old new p q = ap (λ j. set t j old) q ∙ ap (λ z. undo_entry z t) p
+-- one entry replayed
 
 module _ (e : ℕ → Option Entry) (r : Option Entry) (s n k : ℕ) (t : List ℕ) where
   pub replay_nothing : none ≡ r → (t ≡ replay_entry e r s n t) × (none ≡ open_after r s k)
