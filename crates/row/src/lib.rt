@@ -13,8 +13,9 @@
 #![tactic(auto)]
 
 ghost use Rattle.std.specs.Prelude.{◌≡◌, ◌+◌, ◌<◌, ◌≤◌, length};
+ghost use Rattle.std.proofs.Math.Option.{some};
 ghost use Rattle.scope.specs.Bytes.{put};
-ghost use Rattle.scope.specs.Row.{row_bytes, entry_of, read_row, wrong_entry, is_writable, write_row};
+ghost use Rattle.scope.specs.Row.{row_bytes, entry_of, read_row, wrong_entry, is_update, is_writable, write_row};
 ghost use Rattle.row.specs.Row.{entry, reason, meaning, reason_of, bare_end, left_over, unread_as, wrong_of};
 
 // An entry of the journal, without its number.
@@ -23,6 +24,14 @@ pub enum Entry {
     Update { cell: u32, old: u64, new: u64 },
     Commit,
     Abort,
+}
+
+impl Entry {
+    pub fn is_update(self) -> bool
+        ensures { result ≡ is_update (some (entry self)) }
+    {
+        matches!(self, Entry::Update { .. })
+    }
 }
 
 // What is wrong with a row, in the order in which it is judged. "Not an update" is asked of the open transaction's rows alone; a hole is a

@@ -50,8 +50,11 @@ module _ (e : ℕ → Option Entry) (n o : ℕ) (D : Values) where
   unfolding rolled_from
   rolled_suc j k m d h = rw h
 
-  pub roll_again : (m : ℕ) (d d' : Values) → D ≡ rolled_from e n (m - o) m d → o < m → d' ≡ restored n (e m) d → D ≡ rolled_from e n (m - 1 - o) (m - 1) d'
-  roll_again m d d' p h q = let z : m - o ≡ suc (m - 1 - o) = omega arith in p ∙ rolled_suc (m - o) (m - 1 - o) m d z ∙ rw q
+  pub roll_again : (m : ℕ) (d d' : Values) → D ≡ rolled_from e n (m - o) m d → o < m → d' ≡ restored n (e (m - 1 + 1)) d → D ≡ rolled_from e n (m - 1 - o) (m - 1) d'
+  roll_again m d d' p h q =
+      let z : m - o ≡ suc (m - 1 - o) = omega arith in
+      let k : m - 1 + 1 ≡ m = omega arith in
+      p ∙ rolled_suc (m - o) (m - 1 - o) m d z ∙ rw (q, k)
 
   pub roll_end : (m : ℕ) (d : Values) → D ≡ rolled_from e n (m - o) m d → m ≤ o → d ≡ D
   unfolding rolled_from

@@ -1,10 +1,12 @@
 -- Current values, `first` and `last`, as the loops over waiting rows change them. The calls' contracts cite the papers' definitions;
 -- proofs/Alike.antt shows that these say the same.
-use Rattle.std.specs.Prelude.{ℕ, zero, suc, ◌+◌, ◌-◌, ◌≡◌, Bool, true, false, List, length, get_or, set, take, drop}
+use Rattle.std.specs.Prelude.{ℕ, zero, suc, ◌+◌, ◌-◌, ◌≡◌, Bool, List, length, get_or, set, take, drop}
 use Rattle.std.proofs.Math.Option.{Option, none, some}
 use Rattle.scope.specs.Row.{Entry, update, commit_entry, abort_entry, is_update, is_entry, Reason, wrong_update}
 use Rattle.scope.specs.Keeper.{first_mark, row_at}
 use Rattle.journal.specs.Entries.{wrong_in}
+use Rattle.workspace.specs.declared.Due.{Due}
+use Rattle.workspace.specs.declared.Due.TheVariants.{Entries, Updates}
 
 pub record Values : Type 0 where
   pub current : List ℕ
@@ -40,12 +42,12 @@ rolled_from e n (suc count) m d = rolled_from e n count (m - 1) (restored n (e m
 unfoldable pub wrong_update_in : List ℕ → ℕ → ℕ → ℕ → Option Reason
 wrong_update_in waiting slots cells n = wrong_update cells n (take 32 (drop (0 + row_at slots n) waiting))
 
--- whether what a row reads as is due: an update where updates are asked for, else any entry
-unfoldable pub is_due : Bool → Option Entry → Bool
-is_due true e = is_update e
-is_due false e = is_entry e
+-- whether what a row reads as is due: any entry, or an update
+abbrev pub is_due : Due → Option Entry → Bool
+is_due Entries e = is_entry e
+is_due Updates e = is_update e
 
--- what is wrong with the waiting row of entry n, which must be that entry and, where updates are asked for, that update
-unfoldable pub wrong_due : Bool → List ℕ → ℕ → ℕ → ℕ → Option Reason
-wrong_due true waiting = wrong_update_in waiting
-wrong_due false waiting = wrong_in waiting 0
+-- what is wrong with the waiting row of entry n, which must be that entry and, where updates are due, that update
+unfoldable pub wrong_due : Due → List ℕ → ℕ → ℕ → ℕ → Option Reason
+wrong_due Entries waiting = wrong_in waiting 0
+wrong_due Updates waiting = wrong_update_in waiting

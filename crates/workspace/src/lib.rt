@@ -3,16 +3,35 @@
 #![tactic(auto)]
 
 ghost use Rattle.std.specs.Prelude.{◌≡◌, ◌-◌, ◌<◌, length};
-ghost use Rattle.scope.specs.Row.{faultless, fault_at, lowest_fault, fault_entry};
+ghost use Rattle.std.proofs.Math.Option.{some};
+ghost use Rattle.scope.specs.Row.{faultless, fault_at, lowest_fault};
 ghost use Rattle.scope.specs.Keeper.{first_mark};
 ghost use Rattle.scope.specs.Refusals.{any_first};
-ghost use Rattle.row.specs.Row.{fault_of};
+ghost use Rattle.row.specs.Row.{entry, fault_of};
 ghost use Rattle.journal.specs.Entries.{Rows, entry_in};
 ghost use Rattle.workspace.specs.Values.{values, Fits, assigned, restored, rolled_from, is_due, wrong_due};
 
 use journal::entry_at;
 use medium::layout::index;
-use row::{Entry, Fault, Reason, Row, fault_in};
+use row::{Entry, Fault, Reason};
+
+// What waiting rows must hold, beside their number: any entries, or updates.
+#[derive(Clone, Copy, Debug, PartialEq, Eq)]
+pub enum Due {
+    Entries,
+    Updates,
+}
+
+impl Due {
+    fn admits(self, what: Entry) -> bool
+        ensures { result ≡ is_due self (some (entry what)) }
+    {
+        match self {
+            Due::Entries => true,
+            Due::Updates => what.is_update(),
+        }
+    }
+}
 
 // A cell's `first` after entry n: set where it was 0.
 pub fn first_mark(old: u32, n: u32) -> u32
@@ -55,10 +74,10 @@ fn restore(
     ensures { let after = values current.new first.new last.new in
         after ≡ restored n (entry_in waiting.now 0 slots cells m) (values current.old first.old last.old) }
 {
-    let Row::Holds(what) = entry_at(waiting, 0, slots, cells, m) else {
+    let Ok(what) = entry_at(waiting, 0, slots, cells, m) else {
         return;
     };
-    let Entry::Update { cell, old, new: _ } = what else {
+    let Entry::Update { cell, old, .. } = what else {
         return;
     };
     assign(current, first, last, cell, old, n);
@@ -80,76 +99,56 @@ pub fn rollback(
     ensures { let after = values current.new first.new last.new in
         after ≡ rolled_from (entry_in waiting.now 0 slots cells) n (l - o) l (values current.old first.old last.old) }
 {
-    let mut m = l;
-    while o < m {
-        restore(waiting, slots, cells, m, n, current, first, last);
-        m -= 1;
+    for m in (o..l).rev() {
+        restore(waiting, slots, cells, m + 1, n, current, first, last);
     }
 }
 
-// Whether waiting row m is that entry and, where updates are asked for, that update.
-fn is_due(waiting: &[u8], slots: u32, cells: u32, m: u32, updates: bool) -> bool
+// Whether waiting row m holds what is due.
+fn is_due(waiting: &[u8], slots: u32, cells: u32, m: u32, due: Due) -> bool
     requires { Rows waiting.now 0 slots m }
-    ensures { result ≡ is_due updates (entry_in waiting.now 0 slots cells m) }
+    ensures { result ≡ is_due due (entry_in waiting.now 0 slots cells m) }
 {
-    let Row::Holds(what) = entry_at(waiting, 0, slots, cells, m) else {
+    let Ok(what) = entry_at(waiting, 0, slots, cells, m) else {
         return false;
     };
-    if updates {} else {
-        return true;
-    }
-    let Entry::Update {
-        cell: _,
-        old: _,
-        new: _,
-    } = what
-    else {
-        return false;
-    };
-    true
+    due.admits(what)
 }
 
-// The lowest of waiting rows from + 1, .., to that isn't that entry or, where updates are asked for, that update; 0: each is. Goes over
-// those rows up to that one. The number alone goes through the loop: what is wrong with that row is asked only where there is one.
-pub fn lowest_bad(waiting: &[u8], slots: u32, cells: u32, from: u32, to: u32, updates: bool) -> u32
-    requires { Rows waiting.now 0 slots 1 }
-    ensures { result ≡ fault_entry (lowest_fault (wrong_due updates waiting.now slots cells) (to - from) from) }
-{
-    let mut m = from;
-    while m < to {
-        m += 1;
-        let due = is_due(waiting, slots, cells, m, updates);
-        if due {} else {
-            return m;
-        }
-    }
-    0
-}
-
-// What is wrong with waiting row m, which must be that entry and, where updates are asked for, that update.
-pub fn row_fault(waiting: &[u8], slots: u32, cells: u32, m: u32, updates: bool) -> Fault
+// What is wrong with waiting row m, which must hold what is due.
+fn row_fault(waiting: &[u8], slots: u32, cells: u32, m: u32, due: Due) -> Option<Fault>
     requires { Rows waiting.now 0 slots m }
-    ensures { fault_of result ≡ fault_at m (wrong_due updates waiting.now slots cells m) faultless }
+    ensures { fault_of result ≡ fault_at m (wrong_due due waiting.now slots cells m) faultless }
 {
-    let found = entry_at(waiting, 0, slots, cells, m);
-    let Row::Holds(what) = found else {
-        return fault_in(found, m);
-    };
-    if updates {} else {
-        return Fault::None;
-    }
-    let Entry::Update {
-        cell: _,
-        old: _,
-        new: _,
-    } = what
-    else {
-        return Fault::At {
+    match entry_at(waiting, 0, slots, cells, m) {
+        Ok(what) if due.admits(what) => None,
+        Ok(_) => Some(Fault {
             reason: Reason::NotUpdate,
             entry: m,
-        };
-    };
-    Fault::None
+        }),
+        Err(reason) => Some(Fault { reason, entry: m }),
+    }
+}
+
+// What is wrong with the lowest of waiting rows from + 1, .., to that doesn't hold what is due. Goes over those rows up to that one. The loop
+// asks no more than whether: what is wrong is asked of that row alone.
+pub fn lowest_fault(
+    waiting: &[u8],
+    slots: u32,
+    cells: u32,
+    from: u32,
+    to: u32,
+    due: Due,
+) -> Option<Fault>
+    requires { Rows waiting.now 0 slots 1 }
+    ensures { fault_of result ≡ lowest_fault (wrong_due due waiting.now slots cells) (to - from) from }
+{
+    for m in from..to {
+        if !is_due(waiting, slots, cells, m + 1, due) {
+            return row_fault(waiting, slots, cells, m + 1, due);
+        }
+    }
+    None
 }
 
 // Whether some cell has 0 < `first` <= p. Goes once over all cells: without an exit on the way the loop is quicker.
@@ -157,15 +156,10 @@ pub fn any_first(first: &[u32], p: u32) -> bool
     ensures { result ≡ any_first p first.now }
 {
     let mut found = false;
-    let mut i = 0;
-    while i < first.len() {
-        let mark = first[i];
-        if 0 < mark {
-            if mark <= p {
-                found = true;
-            }
+    for &mark in first {
+        if 0 < mark && mark <= p {
+            found = true;
         }
-        i += 1;
     }
     found
 }

@@ -5,8 +5,7 @@ use Rattle.workspace.proofs.Restoring.{roll_again, roll_end}
 use Rattle.workspace.proofs.rollback.Goals as goal
 
 pub loop-m-preserved : goal.loop-m-preserved
-loop-m-preserved c =
-    (search rules, omega arith, roll_again _ _ _ _ _ _ _ c.loop-m.invariant.2 (omega arith) c.restore.ensures)
+loop-m-preserved c = (search rules, roll_again _ _ _ _ _ _ _ c.loop-m.invariant.1 (omega arith) c.restore.ensures)
 
 pub returns : goal.returns
-returns c = roll_end _ _ _ _ _ _ c.loop-m.invariant.2 (omega arith)
+returns c = roll_end _ _ _ _ _ _ c.loop-m.invariant.1 (omega arith)
