@@ -23,12 +23,9 @@ pub fn make_commit(numbers: Numbers, waiting: &mut [u8]) -> Numbers
     let n = numbers.l + 1;
     journal::append(waiting, numbers.slots, n, Entry::Commit);
     Numbers {
-        cells: numbers.cells,
-        slots: numbers.slots,
-        h: numbers.h,
-        f: numbers.f,
         l: n,
         o: n,
+        ..numbers
     }
 }
 
@@ -42,14 +39,7 @@ pub fn force_step(numbers: Numbers, medium: &mut [u8], waiting: &[u8]) -> Number
 {
     let n = numbers.f + 1;
     journal::store_row(medium, waiting, numbers.slots, n);
-    Numbers {
-        cells: numbers.cells,
-        slots: numbers.slots,
-        h: numbers.h,
-        f: n,
-        l: numbers.l,
-        o: numbers.o,
-    }
+    Numbers { f: n, ..numbers }
 }
 
 // Force's steps until f = l. Costs the rows that are not stored, once; stores each of them, in rising order.
