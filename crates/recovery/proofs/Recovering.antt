@@ -1,45 +1,38 @@
 -- Recovery: one law for each way that a function ends, from the tests that led there; a start's table is the replay of the entries that scan counted.
-use Prim.Native.Nat.{ℕ, zero, suc, ◌+◌, ◌-◌, ◌*◌, ◌≤◌, ◌<◌}
+use Prim.Native.Nat.{ℕ, suc, ◌+◌, ◌-◌, ◌*◌, ◌≤◌, ◌<◌}
 use mathlib.Core.Path.{◌≡◌, refl, sym, ap, ◌∙◌}
-use mathlib.Core.Bool.{Bool, true, false, ◌&&◌, not}
+use mathlib.Core.Bool.{Bool, true, false, ◌&&◌, ◌||◌}
 use mathlib.Core.List.{List, [], ◌∷◌}
 use mathlib.Core.Option.{Option, none, some}
 use native.Mathlib.Omega.{arith}
-use borrow.Author.Tests.{lt-ltb, le-ltb, eq-eqb, ne_eqb, leb-true, eqb-true}
+use borrow.Author.Tests.{lt-ltb, le-ltb, leb-true, eqb-true}
 use lib.Dec.{eqb}
 use lib.ListN.{length, get_or, replicate}
 use Rattle.scope.specs.Bytes.{pick, bytes_of, number_at, put}
-use Rattle.scope.specs.Keeper.{Answer, recovering, done, refused, cell, head, clean, in_range, medium_length, cell_at, head_bytes, is_head_ok, no_state, with_state, with_medium, made_to, dropped_to, store_cell, store_head, is_recovering, sound}
+use Rattle.scope.specs.Keeper.{Keeper, Answer, recovering, done, refused, cell, head, clean, in_range, medium_length, cell_at, head_bytes, is_head_ok, no_state, with_state, with_medium, made_to, dropped_to, store_cell, store_head}
 use Rattle.scope.specs.Recovery.{journal, journal_fault, replay, table_of, differing}
 use Rattle.scope.specs.Refusals.{RecoveryStart, RecoveryStep, is_medium, is_cells, lent, lent_start, unfit, tests, refusal, bad_row, told}
 use Rattle.scope.specs.Calls.{started, step_at, performed, act}
 use Rattle.scope.proofs.Refusals.{refusal-none, numbered-refused, numbered-done}
 use Rattle.scope.proofs.Sound.{fit_sound, fit_lent}
 use Rattle.scope.proofs.Told.{told_nothing, told_2}
-use Rattle.row.specs.Row.{fault_of}
+use Rattle.std.specs.declared.option.Option as code
+use Rattle.std.specs.Prelude.{Some, None, Result, Ok, Err}
+use Rattle.scope.specs.Row.{faultless}
+use Rattle.row.specs.Row.{fault_in}
+use Rattle.answer.specs.declared.Refusal.TheVariants.{Unfit, Malformed}
+use Rattle.recovery.specs.Answers.{start_left}
 use Rattle.row.specs.declared.Fault.{Fault}
-use Rattle.row.specs.declared.Fault.TheVariants.{None}
 use Rattle.medium.specs.Lent.{found}
-use Rattle.medium.specs.declared.table.Found.{Found}
-use Rattle.medium.specs.declared.table.Found.TheVariants.{At, Nothing}
 use Rattle.journal.specs.Entries.{entry_in}
 use Rattle.replay.specs.Replay.{last_of, upto, malformed, replay_from, replayed}
-use Rattle.replay.specs.declared.scan.Counted.{Counted}
-use Rattle.replay.specs.declared.scan.Counted.TheVariants.{Upto, Malformed}
 use Rattle.replay.proofs.Replaying.{replay_rows, Last, last_some, last_none, last_fits}
-use Rattle.state.specs.State.{phase_of, state_of}
+use Rattle.state.specs.State.{state_of}
 use Rattle.state.specs.declared.Numbers.{Numbers}
 use Rattle.state.specs.declared.Phase.{Phase}
-use Rattle.state.specs.declared.Phase.TheVariants.{Idle, Recovering}
+use Rattle.state.specs.declared.Phase.TheVariants.{Idle}
 use Rattle.state.proofs.Facts.{and_left, and_right, sound_facts, medium_fits}
 use Rattle.state.specs.Lent.{lent_to, stateless, left}
-use Rattle.recovery.specs.declared.Started.{Started}
-use Rattle.recovery.specs.Answers.{numbered}
-
--- a number as an answer
-pub number-refused : (n : ℕ) → (n ≡ 0 → ⊥) → refused n ≡ numbered n
-number-refused zero h = absurd (h refl)
-number-refused (suc n) h = refl
 
 -- a head in rule
 pub record Head (m : List ℕ) : Type 0 where
@@ -62,30 +55,6 @@ module _ (m current first last waiting : List ℕ) where
   abbrev pub Fit : Bool
   Fit = is_head_ok m && lent_start (number_at 4 0 m) (number_at 4 4 m) (stateless m current first last waiting)
 
-  module _ (t : Bool) (e : t ≡ is_head_ok m) where
-    pub fits_head : t ≡ false → false ≡ Fit
-    fits_head p = simp (← e, p)
-
-    module _ (p : t ≡ true) (n : ℕ) (q : n ≡ number_at 4 0 m) where
-      pub fits_current : (length current ≡ n → ⊥) → false ≡ Fit
-      unfolding lent_start stateless
-      fits_current h = simp (← e, p, ← q, ne_eqb (length current) n h)
-
-      module _ (i : length current ≡ n) where
-        pub fits_first : (length first ≡ n → ⊥) → false ≡ Fit
-        unfolding lent_start stateless
-        fits_first h = simp (← e, p, ← q, eq-eqb (length current) n i, ne_eqb (length first) n h)
-
-        module _ (j : length first ≡ n) where
-          pub fits_last : (length last ≡ n → ⊥) → false ≡ Fit
-          unfolding lent_start stateless
-          fits_last h = simp (← e, p, ← q, eq-eqb (length current) n i, eq-eqb (length first) n j, ne_eqb (length last) n h)
-
-          pub fits-rows : length last ≡ n → (c : ℕ) → c ≡ number_at 4 4 m → eqb (length waiting) (32 * c) ≡ Fit
-          unfolding lent_start stateless
-          fits-rows h c r =
-              simp (← e, p, ← q, ← r, eq-eqb (length current) n i, eq-eqb (length first) n j, eq-eqb (length last) n h)
-
   -- a start's three ends
 
   module _ (t : Bool) (e : t ≡ Fit) where
@@ -93,15 +62,12 @@ module _ (m current first last waiting : List ℕ) where
     unfolding stateless refusal tests
     number_1 p = simp (← e, p)
 
-    pub start_unfit : t ≡ false → (r : Started)
-        → r ≡ record { number = 1; fault = None; numbers = record { cells = 0; slots = 0; h = 0; f = 0; l = 0; o = 0 }; phase = Idle }
-        → (left (numbered r.number) r.numbers r.phase m current first last waiting ≡ act RecoveryStart (stateless m current first last waiting))
-        × (fault_of r.fault ≡ told RecoveryStart (stateless m current first last waiting))
+    pub start_unfit : t ≡ false
+        → (start_left (Err Unfit) m current first last waiting ≡ act RecoveryStart (stateless m current first last waiting))
+        × (faultless ≡ told RecoveryStart (stateless m current first last waiting))
     unfolding left lent_to state_of stateless act refusal tests with_state no_state
-    start_unfit p r q = (
-      ap (λ x. left (numbered x.number) x.numbers x.phase m current first last waiting) q ∙ simp (← e, p),
-      ap (λ x. fault_of x.fault) q ∙ told_nothing RecoveryStart (stateless m current first last waiting) 1 (number_1 p) (λ z. omega arith) (λ z. omega arith),
-    )
+    start_unfit p =
+        (simp (← e, p), told_nothing RecoveryStart (stateless m current first last waiting) 1 (number_1 p) (λ z. omega arith) (λ z. omega arith))
 
     module _ (p : t ≡ true) where
       pub start_head : Head m
@@ -111,14 +77,14 @@ module _ (m current first last waiting : List ℕ) where
       unfolding lent_start stateless
       start_lent = let q = sym e ∙ p in (search tests-true, search tests-true, search tests-true)
 
-      module _ (n c h : ℕ) (qn : n ≡ number_at 4 0 m) (qc : c ≡ number_at 4 4 m) (qh : h ≡ number_at 4 8 m) (u : Counted) (qs : (upto u ≡ last_of h (journal n c h m)) × (malformed u ≡ journal_fault n c h m)) where
+      module _ (n c h : ℕ) (qn : n ≡ number_at 4 0 m) (qc : c ≡ number_at 4 4 m) (qh : h ≡ number_at 4 8 m) (u : Result ℕ Fault) (qs : (upto u ≡ last_of h (journal n c h m)) × (malformed u ≡ journal_fault n c h m)) where
         counted : last_of (number_at 4 8 m) (journal (number_at 4 0 m) (number_at 4 4 m) (number_at 4 8 m) m) ≡ upto u
         counted = sym (qs.0 ∙ (λ i. last_of (qh i) (journal (qn i) (qc i) (qh i) m)))
 
-        none_read : (w : Fault) → u ≡ Malformed w → journal (number_at 4 0 m) (number_at 4 4 m) (number_at 4 8 m) m ≡ none
+        none_read : (w : Fault) → u ≡ Err w → journal (number_at 4 0 m) (number_at 4 4 m) (number_at 4 8 m) m ≡ none
         none_read w g = last_none m (number_at 4 0 m) (number_at 4 4 m) (number_at 4 8 m) (counted ∙ ap upto g)
 
-        number_2 : (w : Fault) → u ≡ Malformed w → 2 ≡ refusal RecoveryStart (stateless m current first last waiting)
+        number_2 : (w : Fault) → u ≡ Err w → 2 ≡ refusal RecoveryStart (stateless m current first last waiting)
         unfolding stateless refusal tests
         number_2 w g = simp (← e, p, none_read w g)
 
@@ -126,17 +92,16 @@ module _ (m current first last waiting : List ℕ) where
         unfolding bad_row stateless
         named = qs.1 ∙ (λ i. journal_fault (qn i) (qc i) (qh i) m)
 
-        pub start_malformed : (w : Fault) → u ≡ Malformed w → (f : Fault) → fault_of f ≡ malformed u → (r : Started)
-            → r ≡ record { number = 2; fault = f; numbers = record { cells = 0; slots = 0; h = 0; f = 0; l = 0; o = 0 }; phase = Idle }
-            → (left (numbered r.number) r.numbers r.phase m current first last waiting ≡ act RecoveryStart (stateless m current first last waiting))
-            × (fault_of r.fault ≡ told RecoveryStart (stateless m current first last waiting))
+        pub start_malformed : (w : Fault) → u ≡ Err w
+            → (start_left (Err (Malformed w)) m current first last waiting ≡ act RecoveryStart (stateless m current first last waiting))
+            × (fault_in w ≡ told RecoveryStart (stateless m current first last waiting))
         unfolding left lent_to state_of stateless act refusal tests with_state no_state
-        start_malformed w g f y r q = (
-          ap (λ x. left (numbered x.number) x.numbers x.phase m current first last waiting) q ∙ simp (← e, p, none_read w g),
-          ap (λ x. fault_of x.fault) q ∙ y ∙ named ∙ told_2 RecoveryStart (stateless m current first last waiting) 2 (number_2 w g) refl,
+        start_malformed w g = (
+          simp (← e, p, none_read w g),
+          ap malformed (sym g) ∙ named ∙ told_2 RecoveryStart (stateless m current first last waiting) 2 (number_2 w g) refl,
         )
 
-        module _ (x : ℕ) (g : u ≡ Upto x) where
+        module _ (x : ℕ) (g : u ≡ Ok x) where
           pub start_upto : h < 4294967296 → h ≤ x
           start_upto f = (last_fits m n c h x (sym qs.0 ∙ ap upto g) f).0
 
@@ -152,7 +117,7 @@ module _ (m current first last waiting : List ℕ) where
           unfolding act performed refusal tests stateless
           accepted = simp (← e, p, read.read)
 
-          module _ (all : Bool) (loaded current' : List ℕ) (ql : loaded ≡ table_of (length current) c m) (qr : replayed all current' ≡ replay_from (entry_in m 32 c n) (x - h) h h loaded) where
+          module _ (all : Result Unit Fault) (loaded current' : List ℕ) (ql : loaded ≡ table_of (length current) c m) (qr : replayed all current' ≡ replay_from (entry_in m 32 c n) (x - h) h h loaded) where
             replay_is : replayed all current' ≡ some (replay read.entries [] (table_of (number_at 4 0 m) (number_at 4 4 m) m))
             replay_is =
                 let z : x - h ≡ length read.entries = omega (arith, read.last) in
@@ -161,47 +126,46 @@ module _ (m current first last waiting : List ℕ) where
                 ∙ replay_rows m (number_at 4 0 m) (number_at 4 4 m) (number_at 4 8 m) read.entries _ read.read
 
             -- behind the scan replay refuses no row
-            pub start_read : all ≡ false → ⊥
-            start_read q =
+            pub start_read : (w : Fault) → all ≡ Err w → ⊥
+            start_read w q =
                 let z : ◌≡◌ {A = Option (List ℕ)} none (some (replay read.entries [] (table_of (number_at 4 0 m) (number_at 4 4 m) m))) =
                 ap (λ b. replayed b current') (sym q) ∙ replay_is in
                 let w : ◌≡◌ {A = ℕ} 0 1 = cc in omega arith
 
-            pub start_done : (first' last' : List ℕ) → first' ≡ replicate (length first) 0 → last' ≡ replicate (length last) 0 → all ≡ true → (r : Started)
-                → r ≡ record { number = 0; fault = None; numbers = record { cells = n; slots = c; h = h; f = x; l = x; o = x }; phase = Recovering }
-                → (left (numbered r.number) r.numbers r.phase m current' first' last' waiting ≡ act RecoveryStart (stateless m current first last waiting))
-                × (fault_of r.fault ≡ told RecoveryStart (stateless m current first last waiting))
+            pub start_done : (first' last' : List ℕ) → first' ≡ replicate (length first) 0 → last' ≡ replicate (length last) 0 → all ≡ Ok tt
+                → (start_left (Ok (record { cells = n; slots = c; h = h; f = x; l = x; o = x })) m current' first' last' waiting ≡ act RecoveryStart (stateless m current first last waiting))
+                × (faultless ≡ told RecoveryStart (stateless m current first last waiting))
             unfolding left lent_to state_of stateless
-            start_done first' last' qf qg ok r q =
+            start_done first' last' qf qg ok =
                 let e : ◌≡◌ {A = Option (List ℕ)} (some current') (some (replay read.entries [] (table_of (number_at 4 0 m) (number_at 4 4 m) m))) =
                 ap (λ b. replayed b current') (sym ok) ∙ replay_is in
                 let a : current' ≡ replay read.entries [] (table_of (number_at 4 0 m) (number_at 4 4 m) m) = cc in
                 let b = qf ∙ ap (λ i. replicate {A = ℕ} i 0) start_lent.1 in
                 let d = qg ∙ ap (λ i. replicate {A = ℕ} i 0) start_lent.2 in
                 let l : x ≡ number_at 4 8 m + length read.entries = read.last in (
-                  ap (λ y. left (numbered y.number) y.numbers y.phase m current' first' last' waiting) q
-                      ∙ (λ i. record {
-                        answer = done 0;
-                        keeper = record {
-                          medium = m;
-                          current = a i;
-                          first = b i;
-                          last = d i;
-                          waiting = waiting;
-                          state = record { cells = qn i; slots = qc i; h = qh i; f = l i; l = l i; o = l i; phase = recovering };
-                        };
-                      })
+                  (λ i. record {
+                    answer = done 0;
+                    keeper = record {
+                      medium = m;
+                      current = a i;
+                      first = b i;
+                      last = d i;
+                      waiting = waiting;
+                      state = record { cells = qn i; slots = qc i; h = qh i; f = l i; l = l i; o = l i; phase = recovering };
+                    };
+                  })
                       ∙ accepted,
-                  ap (λ y. fault_of y.fault) q ∙ told_nothing RecoveryStart (stateless m current first last waiting) 0 number_0 (λ z. omega arith) (λ z. omega arith),
+                  told_nothing RecoveryStart (stateless m current first last waiting) 0 number_0 (λ z. omega arith) (λ z. omega arith),
                 )
 
--- a step's refusal: all its tests, by congruence
-
-module _ (n : Numbers) (p : Phase) (s t rec : Bool) (ss : s ≡ sound (state_of n p)) (rr : rec ≡ is_recovering (phase_of p)) where
-  pub refusal_is : (m current : List ℕ) (a b f : Bool) (r r₁ : ℕ) → a ≡ eqb (length m) (medium_length n.cells n.slots) → b ≡ eqb (length current) n.cells
-      → f ≡ (a && b) → t ≡ (s && f) → r₁ ≡ pick (not rec) 10 0 → r ≡ pick (not t) 1 r₁ → r ≡ refusal RecoveryStep (lent_to n p m current [] [] [])
-  unfolding refusal tests unfit lent lent_to state_of
-  refusal_is m current a b f r r₁ ea eb ef et e₁ e = cc
+-- a step tells of no row
+pub step_silent : (k : Keeper) → faultless ≡ told RecoveryStep k
+unfolding told bad_row
+step_silent k = go (eqb (refusal RecoveryStep k) 2 || eqb (refusal RecoveryStep k) 7)
+  where
+    go : (t : Bool) → faultless ≡ pick t faultless faultless
+    go true = refl
+    go false = refl
 
 -- a step's ends
 
@@ -252,7 +216,7 @@ module _ (n : Numbers) (p : Phase) (m current : List ℕ) (no : ℕ) (e : no ≡
           in_current = eqb-true _ _ (and_right (is_medium k) (is_cells k current) l);
         }
 
-    module _ (u : Found) (d : found u ≡ differing (table_of (length current) n.slots m) current 0) where
+    module _ (u : code.Option ℕ) (d : found u ≡ differing (table_of (length current) n.slots m) current 0) where
       step_is : (o : Option ℕ) → found u ≡ o → step_at o (lent_to n p m current [] [] []) ≡ act RecoveryStep (lent_to n p m current [] [] [])
       unfolding performed lent_to state_of
       step_is o q =
@@ -261,7 +225,7 @@ module _ (n : Numbers) (p : Phase) (m current : List ℕ) (no : ℕ) (e : no ≡
           ap (λ i. step_at i (lent_to n p m current [] [] [])) z
           ∙ numbered-done RecoveryStep (lent_to n p m current [] [] []) no e h
 
-      module _ (c : ℕ) (q : u ≡ At c) where
+      module _ (c : ℕ) (q : u ≡ Some c) where
         pub step_inside : c < length current
         step_inside = omega (arith, lowest_below _ current 0 c (sym d ∙ ap found q))
 
@@ -276,7 +240,7 @@ module _ (n : Numbers) (p : Phase) (m current : List ℕ) (no : ℕ) (e : no ≡
             let z = qm ∙ ap (λ i. put m (cell_at n.slots c) (bytes_of 8 (get_or current i 0))) qa in
             ap (λ i. left (cell c) n p i current [] [] []) z ∙ step_is (some c) (ap found q)
 
-      pub step_last : u ≡ Nothing → (a : Answer) (n' : Numbers) (p' : Phase) (m' : List ℕ)
+      pub step_last : u ≡ None → (a : Answer) (n' : Numbers) (p' : Phase) (m' : List ℕ)
           → left a n' p' m' current [] [] [] ≡ step_at none (lent_to n p m current [] [] [])
           → left a n' p' m' current [] [] [] ≡ act RecoveryStep (lent_to n p m current [] [] [])
       step_last q a n' p' m' r = r ∙ step_is none (ap found q)

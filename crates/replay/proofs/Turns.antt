@@ -5,23 +5,21 @@ use mathlib.Core.Bool.{Bool, true, false, false≢true}
 use mathlib.Core.List.{List, []}
 use mathlib.Core.Option.{Option, none, some}
 use native.Mathlib.Omega.{arith}
-use borrow.Author.Tests.{le-leb, lt-leb, leb-true, eq-eqb, ne_eqb}
+use borrow.Author.Tests.{leb-true, eq-eqb, ne_eqb}
 use lib.Dec.{leb}
 use lib.ListN.{length, set}
 use Rattle.scope.specs.Bytes.{pick, max_no, number_at}
 use Rattle.scope.specs.Row.{Entry, update, commit_entry, abort_entry, is_update, Fault, faultless, fault, fault_at, hole, wrong_entry}
 use Rattle.scope.specs.Recovery.{rows_of, also, any_holds, entries_from, at_most, journal, fault_from, journal_fault}
-use Rattle.row.specs.Row.{meaning, reason_of}
-use Rattle.row.specs.declared.Row.{Row}
-use Rattle.row.specs.declared.Row.TheVariants.{Holds, Wrong}
+use Rattle.std.specs.Prelude.{Result, Ok, Err}
+use Rattle.row.specs.Row.{meaning, reason_of, fault_in}
+use Rattle.row.specs.declared.Fault as faults
 use Rattle.row.specs.declared.Entry.TheVariants.{Update}
 use Rattle.row.specs.declared.Entry as code
 use Rattle.row.specs.declared.Reason as reasons
 use Rattle.journal.specs.Entries.{entry_in}
-use Rattle.journal.proofs.Meanings.{is_end, wrong_alone}
+use Rattle.journal.proofs.Meanings.{is_end}
 use Rattle.replay.specs.Replay.{last_of, undo_entry, undo_from, replay_entry, open_after, opened, onward, replay_from}
-use Rattle.replay.specs.declared.entries.Replayed.{Replayed}
-use Rattle.replay.specs.declared.entries.Replayed.TheVariants.{Open, Malformed}
 
 -- an entry that is no update undoes nothing
 
@@ -31,7 +29,7 @@ undo-other (some (update c old new)) t h = absurd (false≢true h)
 undo-other (some commit_entry) t h = refl
 undo-other (some abort_entry) t h = refl
 
-pub undo-end : (x : Row) (o : Option Entry) → meaning x ≡ o → (w : code.Entry) → x ≡ Holds w → (t : List ℕ) → ((c old new : ℕ) → w ≡ Update c old new → ⊥) → t ≡ undo_entry o t
+pub undo-end : (x : Result code.Entry reasons.Reason) (o : Option Entry) → meaning x ≡ o → (w : code.Entry) → x ≡ Ok w → (t : List ℕ) → ((c old new : ℕ) → w ≡ Update c old new → ⊥) → t ≡ undo_entry o t
 undo-end x o m w p t h = undo-other o t (is_end x o m w p h)
 
 -- one entry undone, replayed
@@ -62,10 +60,10 @@ module _ (e : ℕ → Option Entry) (s k : ℕ) (all t : List ℕ) (p : all ≡ 
   unfolding undo_from
   undo-suc j i h = rw h
 
-  pub undo_again : s < k → (t' : List ℕ) → t' ≡ undo_entry (e k) t → all ≡ undo_from e s (k - 1 - s) t'
+  pub undo_again : s < k → (t' : List ℕ) → t' ≡ undo_entry (e (k - 1 + 1)) t → all ≡ undo_from e s (k - 1 - s) t'
   undo_again h t' q =
       let z : k - s ≡ suc (k - 1 - s) = omega arith in
-      let y : s + (k - s) ≡ k = omega arith in
+      let y : s + (k - s) ≡ k - 1 + 1 = omega arith in
       p ∙ undo-suc (k - s) (k - 1 - s) z ∙ rw (y, q)
 
   pub undo-done : k ≤ s → t ≡ all
@@ -80,35 +78,27 @@ module _ (e : ℕ → Option Entry) (last s n : ℕ) (all : Option (List ℕ)) (
   unfolding replay_from
   replay-suc j i h = rw h
 
-  module _ (h : n < last) (u : Replayed) (q : opened u ≡ open_after (e (n + 1)) s (n + 1)) where
+  module _ (h : n < last) (u : Result ℕ faults.Fault) (q : opened u ≡ open_after (e (n + 1)) s (n + 1)) where
     replay_on : all ≡ onward (opened u) (λ s'. replay_from e (last - (n + 1)) s' (n + 1) (replay_entry e (e (n + 1)) s n t))
     replay_on =
         let z : last - n ≡ suc (last - (n + 1)) = omega arith in
         p ∙ replay-suc (last - n) (last - (n + 1)) z ∙ rw q
 
-    pub replay_again : (s' : ℕ) → u ≡ Open s' → (t' : List ℕ) → t' ≡ replay_entry e (e (n + 1)) s n t → all ≡ replay_from e (last - (n + 1)) s' (n + 1) t'
+    pub replay_again : (s' : ℕ) → u ≡ Ok s' → (t' : List ℕ) → t' ≡ replay_entry e (e (n + 1)) s n t → all ≡ replay_from e (last - (n + 1)) s' (n + 1) t'
     replay_again s' o t' r =
         replay_on ∙ ap (λ v. onward (opened v) (λ s''. replay_from e (last - (n + 1)) s'' (n + 1) (replay_entry e (e (n + 1)) s n t))) o ∙ rw r
 
-    pub replay-refused : u ≡ Malformed → none ≡ all
-    replay-refused o =
+    pub replay-refused : (w : faults.Fault) → u ≡ Err w → none ≡ all
+    replay-refused w o =
         sym (replay_on ∙ ap (λ v. onward (opened v) (λ s''. replay_from e (last - (n + 1)) s'' (n + 1) (replay_entry e (e (n + 1)) s n t))) o)
 
-  pub replay-done : last ≤ n → (t' : List ℕ) → t' ≡ undo_from e s (n - s) t → some t' ≡ all
+  pub replay-done : n ≡ last → (t' : List ℕ) → t' ≡ undo_from e s (last - s) t → some t' ≡ all
   unfolding replay_from
-  replay-done h t' q = let z : last - n ≡ 0 = omega arith in ap some q ∙ sym (p ∙ rw z)
+  replay-done h t' q = let z : last - n ≡ 0 = omega arith in ap some q ∙ sym (p ∙ rw (z, h))
 
 -- how many rows are read
 
 module _ (slots h : ℕ) where
-  pub most_all : slots ≤ 4294967295 - h → slots ≡ at_most slots h
-  unfolding at_most max_no
-  most_all p = simp (le-leb slots (4294967295 - h) p)
-
-  pub most_left : 4294967295 - h < slots → 4294967295 - h ≡ at_most slots h
-  unfolding at_most max_no
-  most_left p = simp (lt-leb slots (4294967295 - h) p)
-
   pub most_fits : h < 4294967296 → h + at_most slots h < 4294967296
   unfolding at_most max_no
   most_fits p = go (leb slots (4294967295 - h)) refl
@@ -124,15 +114,15 @@ module _ (m : List ℕ) (slots : ℕ) (all : Bool) (n count : ℕ) (p : all ≡ 
   unfolding any_holds
   holds-done h = let z : count ≡ 0 = omega arith in sym (p ∙ rw z)
 
-  module _ (h : 0 < count) where
-    holds-suc : all ≡ any_holds (rows_of slots m) (suc (count - 1)) n
-    holds-suc = let z : count ≡ suc (count - 1) = omega arith in p ∙ ap (λ k. any_holds (rows_of slots m) k n) z
+  module _ (rest : ℕ) (h : count ≡ suc rest) where
+    holds-suc : all ≡ any_holds (rows_of slots m) (suc rest) n
+    holds-suc = p ∙ ap (λ k. any_holds (rows_of slots m) k n) h
 
     pub holds-found : number_at 4 0 (rows_of slots m (n + 1)) ≡ n + 1 → true ≡ all
     unfolding any_holds
     holds-found q = sym (holds-suc ∙ simp (eq-eqb _ _ q))
 
-    pub holds_again : (number_at 4 0 (rows_of slots m (n + 1)) ≡ n + 1 → ⊥) → all ≡ any_holds (rows_of slots m) (count - 1) (n + 1)
+    pub holds_again : (number_at 4 0 (rows_of slots m (n + 1)) ≡ n + 1 → ⊥) → all ≡ any_holds (rows_of slots m) rest (n + 1)
     unfolding any_holds
     holds_again q = holds-suc ∙ simp (ne_eqb _ _ q)
 
@@ -163,18 +153,18 @@ module _ (m : List ℕ) (slots cells : ℕ) where
   scan_starts h left p = ap (λ k. last_of h (entries_from (rows_of slots m) cells k h)) (sym p)
 
   module _ (all : Option ℕ) (n left : ℕ) (p : all ≡ last_of n (entries_from (rows_of slots m) cells left n)) where
-    pub scan_done : left ≤ 0 → some n ≡ all
+    pub scan_done : left ≤ 0 → (end : ℕ) → end ≡ n → some end ≡ all
     unfolding entries_from
-    scan_done h = let z : left ≡ 0 = omega arith in sym (p ∙ rw z (last_empty n))
+    scan_done h end q = let z : left ≡ 0 = omega arith in ap some q ∙ sym (p ∙ rw z (last_empty n))
 
-    module _ (h : 0 < left) where
-      scan_suc : all ≡ last_of n (entries_from (rows_of slots m) cells (suc (left - 1)) n)
-      scan_suc = let z : left ≡ suc (left - 1) = omega arith in p ∙ ap (λ k. last_of n (entries_from (rows_of slots m) cells k n)) z
+    module _ (rest : ℕ) (h : left ≡ suc rest) where
+      scan_suc : all ≡ last_of n (entries_from (rows_of slots m) cells (suc rest) n)
+      scan_suc = p ∙ ap (λ k. last_of n (entries_from (rows_of slots m) cells k n)) h
 
       pub scan_stop : (number_at 4 0 (rows_of slots m (n + 1)) ≡ n + 1 → ⊥) → (u : Option ℕ)
-          → u ≡ pick (any_holds (rows_of slots m) (left - 1) (n + 1)) none (some n) → u ≡ all
+          → u ≡ pick (any_holds (rows_of slots m) rest (n + 1)) none (some n) → u ≡ all
       unfolding entries_from
-      scan_stop q u e = e ∙ sym (scan_suc ∙ simp (ne_eqb _ _ q) (last_or_hole n (any_holds (rows_of slots m) (left - 1) (n + 1))))
+      scan_stop q u e = e ∙ sym (scan_suc ∙ simp (ne_eqb _ _ q) (last_or_hole n (any_holds (rows_of slots m) rest (n + 1))))
 
       module _ (q : number_at 4 0 (rows_of slots m (n + 1)) ≡ n + 1) where
         pub scan_bad : none ≡ entry_in m 32 slots cells (n + 1) → none ≡ all
@@ -182,9 +172,9 @@ module _ (m : List ℕ) (slots cells : ℕ) where
         scan_bad e = sym (scan_suc ∙ simp (eq-eqb _ _ q, ← e))
 
         pub scan_again : (x : Entry) → some x ≡ entry_in m 32 slots cells (n + 1)
-            → all ≡ last_of (n + 1) (entries_from (rows_of slots m) cells (left - 1) (n + 1))
+            → all ≡ last_of (n + 1) (entries_from (rows_of slots m) cells rest (n + 1))
         unfolding entries_from entry_in
-        scan_again x e = scan_suc ∙ simp (eq-eqb _ _ q, ← e) (last-also n x (entries_from (rows_of slots m) cells (left - 1) (n + 1)))
+        scan_again x e = scan_suc ∙ simp (eq-eqb _ _ q, ← e) (last-also n x (entries_from (rows_of slots m) cells rest (n + 1)))
 
   -- and the lowest row that does not read
   pub fault_starts : (h left : ℕ) → left ≡ at_most slots h → journal_fault cells slots h m ≡ fault_from (rows_of slots m) cells left h
@@ -196,22 +186,22 @@ module _ (m : List ℕ) (slots cells : ℕ) where
     unfolding fault_from
     fault-done h = let z : left ≡ 0 = omega arith in sym (p ∙ rw z)
 
-    module _ (h : 0 < left) where
-      fault-suc : all ≡ fault_from (rows_of slots m) cells (suc (left - 1)) n
-      fault-suc = let z : left ≡ suc (left - 1) = omega arith in p ∙ ap (λ k. fault_from (rows_of slots m) cells k n) z
+    module _ (rest : ℕ) (h : left ≡ suc rest) where
+      fault-suc : all ≡ fault_from (rows_of slots m) cells (suc rest) n
+      fault-suc = p ∙ ap (λ k. fault_from (rows_of slots m) cells k n) h
 
       pub fault_stop : (number_at 4 0 (rows_of slots m (n + 1)) ≡ n + 1 → ⊥) → (w : Fault)
-          → w ≡ pick (any_holds (rows_of slots m) (left - 1) (n + 1)) (fault hole (n + 1)) faultless → w ≡ all
+          → w ≡ pick (any_holds (rows_of slots m) rest (n + 1)) (fault hole (n + 1)) faultless → w ≡ all
       unfolding fault_from
       fault_stop q w e = e ∙ sym (fault-suc ∙ simp (ne_eqb _ _ q))
 
-      module _ (q : number_at 4 0 (rows_of slots m (n + 1)) ≡ n + 1) (r : Row) (e : reason_of r ≡ wrong_entry cells (n + 1) (rows_of slots m (n + 1))) where
-        fault_on : all ≡ fault_at (n + 1) (reason_of r) (fault_from (rows_of slots m) cells (left - 1) (n + 1))
+      module _ (q : number_at 4 0 (rows_of slots m (n + 1)) ≡ n + 1) (r : Result code.Entry reasons.Reason) (e : reason_of r ≡ wrong_entry cells (n + 1) (rows_of slots m (n + 1))) where
+        fault_on : all ≡ fault_at (n + 1) (reason_of r) (fault_from (rows_of slots m) cells rest (n + 1))
         unfolding fault_from
         fault_on = fault-suc ∙ simp (eq-eqb _ _ q, ← e)
 
-        pub fault_bad : (x : reasons.Reason) → r ≡ Wrong x → (w : Fault) → w ≡ fault_at (n + 1) (reason_of r) faultless → w ≡ all
-        fault_bad x t w f = f ∙ wrong_alone r x t (n + 1) _ _ ∙ sym fault_on
+        pub fault_bad : (x : reasons.Reason) → r ≡ Err x → fault_in (record { reason = x; entry = n + 1 }) ≡ all
+        fault_bad x t = sym (fault_on ∙ ap (λ v. fault_at (n + 1) (reason_of v) (fault_from (rows_of slots m) cells rest (n + 1))) t)
 
-        pub fault_again : (x : code.Entry) → r ≡ Holds x → all ≡ fault_from (rows_of slots m) cells (left - 1) (n + 1)
-        fault_again x f = fault_on ∙ ap (λ v. fault_at (n + 1) (reason_of v) (fault_from (rows_of slots m) cells (left - 1) (n + 1))) f
+        pub fault_again : (x : code.Entry) → r ≡ Ok x → all ≡ fault_from (rows_of slots m) cells rest (n + 1)
+        fault_again x f = fault_on ∙ ap (λ v. fault_at (n + 1) (reason_of v) (fault_from (rows_of slots m) cells rest (n + 1))) f

@@ -1,27 +1,24 @@
 -- Replay by entry numbers, as its loops go. The calls' contracts cite the papers' definitions; proofs/Replaying.antt shows that these say
 -- the same.
-use Rattle.std.specs.Prelude.{ℕ, zero, suc, ◌+◌, ◌-◌, Bool, true, false, List, length, set}
+use Rattle.std.specs.Prelude.{ℕ, zero, suc, ◌+◌, ◌-◌, List, length, set, Result, Ok, Err}
 use Rattle.std.proofs.Math.Option.{Option, none, some}
 use Rattle.scope.specs.Row.{Entry, update, commit_entry, abort_entry, Fault, faultless}
-use Rattle.row.specs.Row.{fault_of}
-use Rattle.replay.specs.declared.scan.Counted.{Counted}
-use Rattle.replay.specs.declared.scan.Counted.TheVariants as counts
-use Rattle.replay.specs.declared.entries.Replayed.{Replayed}
-use Rattle.replay.specs.declared.entries.Replayed.TheVariants.{Open, Malformed}
+use Rattle.row.specs.declared.Fault as code
+use Rattle.row.specs.Row.{fault_in}
 
 -- the last entry that counts, or none where a row does not read
 abbrev pub last_of : ℕ → Option (List Entry) → Option ℕ
 last_of h (some es) = some (h + length es)
 last_of h none = none
 
-abbrev pub upto : Counted → Option ℕ
-upto (counts.Upto e) = some e
-upto (counts.Malformed w) = none
+abbrev pub upto : Result ℕ code.Fault → Option ℕ
+upto (Ok e) = some e
+upto (Err w) = none
 
 -- what is wrong with the row that does not read
-abbrev pub malformed : Counted → Fault
-malformed (counts.Upto e) = faultless
-malformed (counts.Malformed w) = fault_of w
+abbrev pub malformed : Result ℕ code.Fault → Fault
+malformed (Ok e) = faultless
+malformed (Err w) = fault_in w
 
 -- one entry undone: an update's old value is put back
 abbrev pub undo_entry : Option Entry → List ℕ → List ℕ
@@ -49,9 +46,9 @@ open_after (some commit_entry) s n = some n
 open_after (some abort_entry) s n = some n
 open_after none s n = none
 
-abbrev pub opened : Replayed → Option ℕ
-opened (Open s) = some s
-opened Malformed = none
+abbrev pub opened : Result ℕ code.Fault → Option ℕ
+opened (Ok s) = some s
+opened (Err w) = none
 
 abbrev pub onward : Option ℕ → (ℕ → Option (List ℕ)) → Option (List ℕ)
 onward (some s) f = f s
@@ -64,6 +61,6 @@ replay_from e (suc left) s n t =
     onward (open_after (e (n + 1)) s (n + 1)) (λ s'. replay_from e left s' (n + 1) (replay_entry e (e (n + 1)) s n t))
 
 -- whether each row is its entry, and the table then
-abbrev pub replayed : Bool → List ℕ → Option (List ℕ)
-replayed true t = some t
-replayed false t = none
+abbrev pub replayed : Result Unit code.Fault → List ℕ → Option (List ℕ)
+replayed (Ok u) t = some t
+replayed (Err w) t = none

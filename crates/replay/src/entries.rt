@@ -6,28 +6,16 @@ ghost use Rattle.replay.specs.Replay.{undo_entry, undo_from, replay_entry, open_
 
 use journal::{entry_at, entry_from, first_row, next_row};
 use medium::layout::index;
-use row::{Entry, Row};
-
-// An entry that was replayed: after which number the open transaction's updates come. Or its row isn't that entry.
-#[derive(Clone, Copy)]
-pub enum Replayed {
-    Open(u32),
-    Malformed,
-}
+use row::{Entry, Fault};
 
 // Entry n undone.
 fn undo_entry(medium: &[u8], slots: u32, cells: u32, n: u32, current: &mut [u64])
     requires { (Rows medium.now 32 slots n) × (length current.old ≡ cells) }
     ensures { current.new ≡ undo_entry (entry_in medium.now 32 slots cells n) current.old }
 {
-    let Row::Holds(what) = entry_at(medium, 32, slots, cells, n) else {
-        return;
-    };
-    let Entry::Update { cell, old, new: _ } = what else {
-        return;
-    };
-    let at = index(cell);
-    current[at] = old;
+    if let Ok(Entry::Update { cell, old, new: _ }) = entry_at(medium, 32, slots, cells, n) {
+        current[index(cell)] = old;
+    }
 }
 
 // Entries n, n - 1, .., s + 1 undone, in falling order.
@@ -35,14 +23,13 @@ fn undo(medium: &[u8], slots: u32, cells: u32, s: u32, n: u32, current: &mut [u6
     requires { (Rows medium.now 32 slots 1) × (length current.old ≡ cells) }
     ensures { current.new ≡ undo_from (entry_in medium.now 32 slots cells) s (n - s) current.old }
 {
-    let mut k = n;
-    while s < k {
-        undo_entry(medium, slots, cells, k, current);
-        k -= 1;
+    for k in (s..n).rev() {
+        undo_entry(medium, slots, cells, k + 1, current);
     }
 }
 
-// Entry n + 1, whose row begins at a place, replayed, where the open transaction's updates come after s.
+// Entry n + 1, whose row begins at a place, replayed, where the open transaction's updates come after s: after which number they come then, or
+// what is wrong with the row, which isn't that entry.
 fn replay_entry(
     medium: &[u8],
     slots: u32,
@@ -51,47 +38,49 @@ fn replay_entry(
     n: u32,
     at: usize,
     current: &mut [u64],
-) -> Replayed
+) -> Result<u32, Fault>
     requires rows { (Rows medium.now 32 slots 1) × ((length current.old ≡ cells) × (n < 4294967295)) }
     requires place { (at ≡ 32 + row_at slots (n + 1)) × (at ≤ 32 * slots) }
     ensures { (current.new ≡ replay_entry (entry_in medium.now 32 slots cells) (entry_in medium.now 32 slots cells (n + 1)) s n current.old) × (opened result ≡ open_after (entry_in medium.now 32 slots cells (n + 1)) s (n + 1)) }
 {
     let next = n + 1;
-    let Row::Holds(what) = entry_from(medium, at, cells, next) else {
-        return Replayed::Malformed;
-    };
-    match what {
-        Entry::Update { cell, old: _, new } => {
-            let place = index(cell);
-            current[place] = new;
-            Replayed::Open(s)
+    match entry_from(medium, at, cells, next) {
+        Err(reason) => Err(Fault {
+            reason,
+            entry: next,
+        }),
+        Ok(Entry::Update { cell, old: _, new }) => {
+            current[index(cell)] = new;
+            Ok(s)
         }
-        Entry::Commit => Replayed::Open(next),
-        Entry::Abort => {
+        Ok(Entry::Commit) => Ok(next),
+        Ok(Entry::Abort) => {
             undo(medium, slots, cells, s, n, current);
-            Replayed::Open(next)
+            Ok(next)
         }
     }
 }
 
-// Entries h + 1 to e replayed, and what is left open undone; answers whether each row is its entry. Goes once over those rows, and once
-// more over each undone one.
-pub fn replay(medium: &[u8], slots: u32, cells: u32, h: u32, e: u32, current: &mut [u64]) -> bool
+// Entries h + 1 to e replayed, and what is left open undone; or what is wrong with the lowest row that isn't its entry. Goes once over those
+// rows, and once more over each undone one.
+pub fn replay(
+    medium: &[u8],
+    slots: u32,
+    cells: u32,
+    h: u32,
+    e: u32,
+    current: &mut [u64],
+) -> Result<(), Fault>
     requires { (Rows medium.now 32 slots 1) × ((length current.old ≡ cells) × (h ≤ e)) }
     ensures { let after = replayed result current.new in
         after ≡ replay_from (entry_in medium.now 32 slots cells) (e - h) h h current.old }
 {
-    let mut n = h;
     let mut s = h;
     let mut at = first_row(slots, h);
-    while n < e {
-        let Replayed::Open(open) = replay_entry(medium, slots, cells, s, n, at, current) else {
-            return false;
-        };
-        s = open;
+    for n in h..e {
+        s = replay_entry(medium, slots, cells, s, n, at, current)?;
         at = next_row(slots, at);
-        n += 1;
     }
-    undo(medium, slots, cells, s, n, current);
-    true
+    undo(medium, slots, cells, s, e, current);
+    Ok(())
 }

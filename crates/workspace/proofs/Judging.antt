@@ -1,5 +1,5 @@
--- Whether one waiting row is what is due, and what is wrong with it, by what it reads as; one turn of the search for the lowest row that isn't, by
--- peeling its definition; and the fault of the row whose number the search answers is the lowest fault, since that row is the lowest bad one.
+-- Whether one waiting row is what is due, and what is wrong with it, by what it reads as; and one turn of the search for the lowest fault, by peeling
+-- its definition.
 use Prim.Native.Nat.{ℕ, suc, ◌+◌, ◌-◌, ◌≤◌, ◌<◌}
 use mathlib.Core.Path.{◌≡◌, refl, sym, ap, ◌∙◌}
 use mathlib.Core.Bool.{Bool, true, false, false≢true}

@@ -3,6 +3,6 @@ use Rattle.journal.proofs.Meanings.{is-update, entry-below}
 use native.Mathlib.Omega.{arith}
 use Rattle.replay.proofs.entries.undo_entry.Goals as goal
 
-pub bounds-current-at : goal.bounds-current-at
-bounds-current-at c =
-    omega (arith, entry-below _ _ _ _ _ _ _ _ (is-update _ _ c.entry_at.ensures.entry _ c.in-Holds.is _ _ _ c.in-Update.is))
+pub bounds-current-index : goal.bounds-current-index
+bounds-current-index c =
+    omega (arith, entry-below _ _ _ _ _ _ _ _ (is-update _ _ c.entry_at.ensures.entry _ c.in-Ok-Update.is _ _ _ c.in-Ok-Update.field-0-is))

@@ -1,13 +1,12 @@
--- `replay::scan::any_holds` meets its contract. The invariant: the rows that remain, from entry k + 1 on, say the same, M is not passed, and the place is
--- entry k + 1's.
-use Prim.Native.Nat.{◌+◌, ◌*◌, ◌<◌, ◌≤◌}
-use mathlib.Core.Path.{◌≡◌}
+-- The rows that remain, from entry k + 1 on, say what all say. The invariant has the place, which is entry k + 1's.
+use Rattle.std.proofs.Common.{◌≡◌, ◌+◌, ◌-◌, ◌*◌, ◌≤◌}
 use Rattle.scope.specs.Keeper.{row_at}
 use Rattle.scope.specs.Recovery.{rows_of, any_holds}
 use Rattle.replay.proofs.scan.any_holds.Given as goal
 
-abbrev pub invariant-loop-left : goal.invariant-loop-left
-invariant-loop-left l = (l.k + l.left < 4294967296) × ((any_holds (rows_of l.slots l.medium) l.count l.n ≡ any_holds (rows_of l.slots l.medium) l.left l.k) × ((l.at ≡ 32 + row_at l.slots (l.k + 1)) × (l.at ≤ 32 * l.slots)))
-
-abbrev pub decreases-loop-left : goal.decreases-loop-left
-decreases-loop-left l = l.left
+abbrev pub invariant-loop-k : goal.invariant-loop-k
+invariant-loop-k l = record {
+  remains : any_holds (rows_of l.slots l.medium) l.count l.n ≡ any_holds (rows_of l.slots l.medium) (l.n + l.count - l.k) l.k;
+  place : l.at ≡ 32 + row_at l.slots (l.k + 1);
+  inside : l.at ≤ 32 * l.slots;
+}

@@ -1,10 +1,9 @@
--- The number of rows read at most is `at_most`: by its test.
-use Rattle.replay.proofs.Turns.{most_all, most_left}
-use native.Mathlib.Omega.{arith}
+-- The lesser of C and what is left up to M is the definition's choice between them.
+use Rattle.std.proofs.Common.{arith}
+use Rattle.scope.specs.Bytes.{max_no}
+use Rattle.scope.specs.Recovery.{at_most}
 use Rattle.replay.proofs.scan.at_most.Goals as goal
 
-pub returns-then-slots-left : goal.returns-then-slots-left
-returns-then-slots-left c = most_all _ _ (omega arith)
-
-pub returns-else-slots-left : goal.returns-else-slots-left
-returns-else-slots-left c = most_left _ _ (omega arith)
+pub returns : goal.returns
+unfolding at_most max_no
+returns c = grind (arith, c.min.ensures)

@@ -1,16 +1,14 @@
--- `replay::scan::scan` meets its contract. The scan gives the last entry of the journal, or its lowest row that does not read. The invariant: the
--- rows that remain, from entry n + 1 on, have the same last entry and the same such row, M is not passed, and the place is entry n + 1's.
-use Prim.Native.Nat.{◌+◌, ◌*◌, ◌<◌, ◌≤◌}
-use mathlib.Core.Path.{◌≡◌}
+-- The rows that remain, from entry n + 1 on, have the last entry and the lowest row that does not read of all. The invariant has the place, which is entry n + 1's.
+use Rattle.std.proofs.Common.{◌≡◌, ◌+◌, ◌-◌, ◌*◌, ◌≤◌}
 use Rattle.scope.specs.Keeper.{row_at}
 use Rattle.scope.specs.Recovery.{rows_of, entries_from, journal, fault_from, journal_fault}
 use Rattle.replay.specs.Replay.{last_of}
 use Rattle.replay.proofs.scan.scan.Given as goal
 
-abbrev pub invariant-loop-left : goal.invariant-loop-left
-invariant-loop-left l = (l.n + l.left < 4294967296)
-    × ((last_of l.h (journal l.cells l.slots l.h l.medium) ≡ last_of l.n (entries_from (rows_of l.slots l.medium) l.cells l.left l.n))
-    × ((journal_fault l.cells l.slots l.h l.medium ≡ fault_from (rows_of l.slots l.medium) l.cells l.left l.n) × ((l.at ≡ 32 + row_at l.slots (l.n + 1)) × (l.at ≤ 32 * l.slots))))
-
-abbrev pub decreases-loop-left : goal.decreases-loop-left
-decreases-loop-left l = l.left
+abbrev pub invariant-loop-n : goal.invariant-loop-n
+invariant-loop-n l = record {
+  last : last_of l.h (journal l.cells l.slots l.h l.medium) ≡ last_of l.n (entries_from (rows_of l.slots l.medium) l.cells (l.end - l.n) l.n);
+  fault : journal_fault l.cells l.slots l.h l.medium ≡ fault_from (rows_of l.slots l.medium) l.cells (l.end - l.n) l.n;
+  place : l.at ≡ 32 + row_at l.slots (l.n + 1);
+  inside : l.at ≤ 32 * l.slots;
+}
