@@ -1,11 +1,11 @@
--- `number::put4` meets its contract. The library's four bytes of the number, copied to their place.
+-- `number::put4` meets its contract. Four stores in a row are one store of the number's bytes.
 use native.Mathlib.Omega.{arith}
-use mathlib.Core.Path.{ap, ◌∙◌}
-use Rattle.scope.specs.Bytes.{put}
-use Rattle.number.proofs.Numbers.{part_put, four_bytes, bytes_four}
+use mathlib.Core.Path.{ap}
+use lib.ListN.{get_or}
+use Rattle.number.proofs.Numbers.{four_put}
 use Rattle.number.proofs.put4.Goals as goal
 
 pub returns : goal.returns
 returns c =
-    part_put c.args.s.now _ _ c.args.at 4 (c.copy_from_slice.ensures.after ∙ c.to_le_bytes.ensures) (bytes_four c.args.x) (omega arith)
-    ∙ ap (put c.args.s.now c.args.at) (four_bytes c.args.x)
+    let bytes = c.to_le_bytes.ensures in
+    four_put _ _ c.args.x _ _ _ _ (omega arith) (ap (λ l. get_or l 0 0) bytes) (ap (λ l. get_or l 1 0) bytes) (ap (λ l. get_or l 2 0) bytes) (ap (λ l. get_or l 3 0) bytes)
