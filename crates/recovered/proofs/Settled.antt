@@ -1,6 +1,6 @@
 -- Recovery run to its end: steps that remain give what all give, a step looks at medium and current values alone, and none changes
 -- anything after a start that the head refuses. So a start and its steps in workspaces of zeros are those of the definition.
-use Prim.Native.Nat.{ℕ, zero, suc, ◌+◌, ◌-◌, ◌*◌, ◌≤◌, ◌<◌}
+use Prim.Native.Nat.{ℕ, zero, suc, ◌+◌, ◌*◌, ◌≤◌}
 use mathlib.Core.Path.{◌≡◌, refl, sym, ap, ◌∙◌}
 use mathlib.Core.Bool.{Bool, true, false}
 use mathlib.Core.List.{List, [], ◌∷◌}
@@ -8,36 +8,36 @@ use native.Mathlib.Omega.{arith}
 use lib.ListN.{length, replicate, take, length-replicate}
 use Rattle.scope.specs.Bytes.{pick, number_at}
 use Rattle.scope.specs.Row.{faultless}
-use Rattle.scope.specs.Keeper.{Keeper, Answer, refused, is_head_ok, no_state, in_range, sound, with_state}
+use Rattle.scope.specs.Keeper.{Keeper, Answer, done, refused, is_head_ok, no_state, in_range, sound, with_state}
 use Rattle.scope.specs.Refusals.{RecoveryStart, RecoveryStep, unfit, refusal, tests, told}
 use Rattle.scope.specs.Calls.{act, performed}
 use Rattle.scope.proofs.Frames.{onto, frame}
 use Rattle.scope.proofs.Told.{told_nothing}
-use Rattle.row.specs.Row.{fault_of}
+use Rattle.std.specs.Prelude.{Ok, Err}
+use Rattle.answer.specs.Answer.{number_of, told_with}
+use Rattle.answer.specs.declared.Refusal.{Refusal}
 use Rattle.state.specs.Lent.{lent_to, stateless, left}
 use Rattle.state.specs.declared.Numbers.{Numbers}
 use Rattle.state.specs.declared.Phase.{Phase}
-use Rattle.recovery.specs.Answers.{numbered, stepped}
-use Rattle.recovery.specs.declared.Started.{Started}
+use Rattle.state.specs.State.{state_of}
+use Rattle.state.specs.declared.Phase.TheVariants.{Idle, Recovering}
+use Rattle.recovery.specs.Answers.{stepped, zeros, start_left}
 use Rattle.recovery.specs.declared.Step.{Step}
 use Rattle.recovery.specs.declared.Step.TheVariants as step
 use Rattle.recovery.proofs.Recovering.{head_fits}
 use Rattle.recovered.specs.Recovered.{is_cell, steps, started, start_told, recovered, head_number, Zeroed, Recovers}
+use Rattle.recovered.specs.declared.Recovered.{Recovered}
 
 -- one step of those that remain
 
 module _ (n n' : Numbers) (p p' : Phase) (m m' current : List ℕ) (a : Answer) (e : left a n' p' m' current [] [] [] ≡ act RecoveryStep (lent_to n p m current [] [] [])) where
-  pub steps_again : (turns : ℕ) → 0 < turns → is_cell a ≡ true → steps turns (lent_to n p m current [] [] []) ≡ steps (turns - 1) (lent_to n' p' m' current [] [] [])
+  pub steps_again : (turns rest : ℕ) → turns ≡ suc rest → is_cell a ≡ true → steps turns (lent_to n p m current [] [] []) ≡ steps rest (lent_to n' p' m' current [] [] [])
   unfolding steps left
-  steps_again zero h t = absurd (omega arith)
-  steps_again (suc turns) h t =
-      let z : suc turns - 1 ≡ turns = omega arith in
-      simp (← e, t, z)
+  steps_again turns rest z t = rw z (simp (← e, t))
 
-  pub steps_stop : (turns : ℕ) → 0 < turns → is_cell a ≡ false → lent_to n' p' m' current [] [] [] ≡ steps turns (lent_to n p m current [] [] [])
+  pub steps_stop : (turns rest : ℕ) → turns ≡ suc rest → is_cell a ≡ false → lent_to n' p' m' current [] [] [] ≡ steps turns (lent_to n p m current [] [] [])
   unfolding steps left
-  steps_stop zero h t = absurd (omega arith)
-  steps_stop (suc turns) h t = simp (← e, t)
+  steps_stop turns rest z t = rw z (simp (← e, t))
 
 pub steps-end : (k : Keeper) (left : ℕ) → left ≡ 0 → k ≡ steps left k
 unfolding steps
@@ -49,7 +49,6 @@ pub no_cell : (x : Step) → ((c : ℕ) → x ≡ step.Cell c → ⊥) → is_ce
 no_cell (step.Cell c) h = absurd (h c refl)
 no_cell step.Head h = refl
 no_cell step.Clean h = refl
-no_cell (step.Refused n) h = refl
 
 -- a keeper without what a step isn't lent
 
@@ -190,20 +189,36 @@ module _ (m current waiting : List ℕ) (d : Zeroed m current waiting) where
         go true e = in_rule e
         go false e = out_of_rule e
 
-    pub recovers : (s o : Started) (current' first' last' m' : List ℕ)
-        → (left (numbered s.number) s.numbers s.phase m current' first' last' waiting ≡ act RecoveryStart (stateless m current first last waiting))
-        × (fault_of s.fault ≡ told RecoveryStart (stateless m current first last waiting))
-        → (o.number ≡ s.number) × (o.fault ≡ s.fault)
-        → lent_to o.numbers o.phase m' current' [] [] [] ≡ steps (length current + 1) (lent_to s.numbers s.phase m current' [] [] [])
-        → Recovers m o m'
+    -- steps from what the start left
+    ended : (a : Answer) (n n' : Numbers) (p p' : Phase) (current' first' last' m' : List ℕ)
+        → left a n p m current' first' last' waiting ≡ act RecoveryStart (stateless m current first last waiting)
+        → lent_to n' p' m' current' [] [] [] ≡ steps (length current + 1) (lent_to n p m current' [] [] [])
+        → (a ≡ (started m).answer) × ((state_of n' p' ≡ (recovered m).state) × (m' ≡ (recovered m).medium))
     unfolding lent_to left
-    recovers s o current' first' last' m' e q r =
-        let g = lent_to s.numbers s.phase m current' [] [] [] in
-        let f = steps_frame g (length current + 1) (lent_to s.numbers s.phase m current' first' last' waiting) in
-        let ended = r ∙ f ∙ ap (λ x. onto RecoveryStep g (steps (length current + 1) x.keeper)) e.0 in
-        record {
-          answer = ap numbered q.0 ∙ ap (λ x. x.answer) e.0 ∙ as_started.0;
-          fault = ap fault_of q.1 ∙ e.1 ∙ as_started.1.0;
-          state = ap (λ k. k.state) ended ∙ as_started.1.1.0;
-          medium = ap (λ k. k.medium) ended ∙ as_started.1.1.1;
-        }
+    ended a n n' p p' current' first' last' m' e r =
+        let g = lent_to n p m current' [] [] [] in
+        let f = steps_frame g (length current + 1) (lent_to n p m current' first' last' waiting) in
+        let all = r ∙ f ∙ ap (λ x. onto RecoveryStep g (steps (length current + 1) x.keeper)) e in (
+          ap (λ x. x.answer) e ∙ as_started.0,
+          (ap (λ k. k.state) all ∙ as_started.1.1.0, ap (λ k. k.medium) all ∙ as_started.1.1.1),
+        )
+
+    pub recovers_on : (n : Numbers) (o : Recovered) (current' first' last' m' : List ℕ)
+        → (start_left (Ok n) m current' first' last' waiting ≡ act RecoveryStart (stateless m current first last waiting))
+        × (faultless ≡ told RecoveryStart (stateless m current first last waiting))
+        → lent_to o.numbers o.phase m' current' [] [] [] ≡ steps (length current + 1) (lent_to n Recovering m current' [] [] [])
+        → Recovers m (Ok o) m'
+    recovers_on n o current' first' last' m' e r =
+        let x = ended (done 0) n o.numbers Recovering o.phase current' first' last' m' e.0 r in
+        record { answer = x.0; fault = e.1 ∙ as_started.1.0; state = x.1.0; medium = x.1.1 }
+
+    -- a refused start leaves no state, and no step changes anything then
+    pub recovers_refused : (y : Refusal) (current' first' last' : List ℕ)
+        → (start_left (Err y) m current' first' last' waiting ≡ act RecoveryStart (stateless m current first last waiting))
+        × (told_with y ≡ told RecoveryStart (stateless m current first last waiting))
+        → Recovers m (Err y) m
+    unfolding lent_to state_of no_state
+    recovers_refused y current' first' last' e =
+        let none = steps-none (length current + 1) (lent_to zeros Idle m current' [] [] []) refl in
+        let x = ended (refused (number_of y)) zeros zeros Idle Idle current' first' last' m e.0 (sym none) in
+        record { answer = x.0; fault = e.1 ∙ as_started.1.0; state = x.1.0; medium = x.1.1 }

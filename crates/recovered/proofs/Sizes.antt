@@ -14,8 +14,8 @@ use Rattle.scope.specs.Refusals.{RecoveryStart, RecoveryStep, refusal}
 use Rattle.scope.specs.Calls.{step_at, performed, unchanged, unless, act}
 use Rattle.state.specs.State.{state_of}
 use Rattle.state.specs.Lent.{stateless}
-use Rattle.recovery.specs.Answers.{numbered}
-use Rattle.recovery.specs.declared.Started.{Started}
+use Rattle.std.specs.Prelude.{Ok}
+use Rattle.recovered.specs.declared.Recovered.{Recovered}
 use Rattle.recovery.proofs.Recovering.{Head, head_fits}
 use Rattle.recovered.proofs.Settled.{start_none}
 use Rattle.recovered.specs.Recovered.{is_cell, steps, in_zeros, started, recovered, Recovers}
@@ -85,10 +85,10 @@ module _ (m : List ℕ) where
   unfolding recovered
   recovered_sizes = steps_sizes (N + 1) (started m).keeper
 
-  -- N and C of the state that a recovery leaves, where its start isn't refused, are those of a head in rule
-  pub recovers_sizes : (o : Started) (m' : List ℕ) → Recovers m o m' → o.number ≡ 0 → Head m × ((o.numbers.cells ≡ N) × (o.numbers.slots ≡ C))
+  -- N and C of the state that a recovery leaves are those of a head in rule
+  pub recovers_sizes : (o : Recovered) (m' : List ℕ) → Recovers m (Ok o) m' → Head m × ((o.numbers.cells ≡ N) × (o.numbers.slots ≡ C))
   unfolding state_of
-  recovers_sizes o m' r q =
-      let e : (started m).answer ≡ done 0 = sym r.answer ∙ ap numbered q in
+  recovers_sizes o m' r =
+      let e : (started m).answer ≡ done 0 = sym r.answer in
       let z = started_sizes 0 e in
       (started_fits 0 e, (ap (λ s. s.cells) r.state ∙ recovered_sizes.0 ∙ z.0, ap (λ s. s.slots) r.state ∙ recovered_sizes.1 ∙ z.1))

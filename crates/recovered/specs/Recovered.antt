@@ -1,15 +1,15 @@
 -- What the recovery of a medium to its end answers and leaves: a start in workspaces of zeros, then the steps, by the papers' calls.
-use Rattle.std.specs.Prelude.{ℕ, zero, suc, ◌+◌, ◌*◌, ◌≡◌, Bool, true, false, List, replicate}
+use Rattle.std.specs.Prelude.{ℕ, zero, suc, ◌+◌, ◌*◌, ◌≡◌, Bool, true, false, List, replicate, Result, Ok, Err}
 use Rattle.scope.specs.Bytes.{pick, number_at}
-use Rattle.scope.specs.Keeper.{Keeper, Answer, Outcome, done, refused, cell, head, clean, stored, part, is_head_ok}
+use Rattle.scope.specs.Keeper.{State, no_state, Keeper, Answer, Outcome, done, refused, cell, head, clean, stored, part, is_head_ok}
 use Rattle.scope.specs.Row.{Fault}
 use Rattle.scope.specs.Refusals.{RecoveryStart, RecoveryStep, told}
 use Rattle.scope.specs.Calls.{act}
-use Rattle.row.specs.Row.{fault_of}
+use Rattle.answer.specs.Answer.{number_of, told_in}
+use Rattle.answer.specs.declared.Refusal.{Refusal}
 use Rattle.state.specs.State.{state_of}
 use Rattle.state.specs.Lent.{stateless}
-use Rattle.recovery.specs.Answers.{numbered}
-use Rattle.recovery.specs.declared.Started.{Started}
+use Rattle.recovered.specs.declared.Recovered.{Recovered}
 
 -- a cell was stored
 abbrev pub is_cell : Answer → Bool
@@ -53,9 +53,18 @@ pub record Zeroed (m current waiting : List ℕ) : Type 0 where
   pub current-zero : current ≡ replicate (head_number 0 m) 0
   pub waiting-zero : waiting ≡ replicate (32 * head_number 4 m) 0
 
+-- the start's answer, and the state after the steps: a refused start leaves that of zeros
+abbrev pub answer_of : Result Recovered Refusal → Answer
+answer_of (Ok r) = done 0
+answer_of (Err x) = refused (number_of x)
+
+abbrev pub state_after : Result Recovered Refusal → State
+state_after (Ok r) = state_of r.numbers r.phase
+state_after (Err x) = no_state
+
 -- what a recovery from a medium answers and leaves: the start's answer and what it tells, with the state and the medium after the steps
-pub record Recovers (m : List ℕ) (o : Started) (m' : List ℕ) : Type 0 where
-  pub answer : numbered o.number ≡ (started m).answer
-  pub fault : fault_of o.fault ≡ start_told m
-  pub state : state_of o.numbers o.phase ≡ (recovered m).state
+pub record Recovers (m : List ℕ) (o : Result Recovered Refusal) (m' : List ℕ) : Type 0 where
+  pub answer : answer_of o ≡ (started m).answer
+  pub fault : told_in o ≡ start_told m
+  pub state : state_after o ≡ (recovered m).state
   pub medium : m' ≡ (recovered m).medium

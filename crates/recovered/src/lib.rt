@@ -3,56 +3,66 @@
 
 ghost use Rattle.std.specs.Prelude.{◌≡◌, [], ◌≤◌};
 ghost use Rattle.state.specs.Lent.{lent_to};
+ghost use Rattle.state.specs.declared.Phase.TheVariants as phases;
 ghost use Rattle.recovered.specs.Recovered.{steps, head_number, Zeroed, Recovers};
 
+use answer::Refusal;
 use medium::head::head_ok;
 use medium::layout::index;
-use recovery::{Started, Step, recovery_start, recovery_step};
+use recovery::{Step, recovery_start, recovery_step};
+use state::{Numbers, Phase};
 
-// Recovery steps while a cell is stored, at most so many.
-fn settle(mut left: usize, mut state: Started, medium: &mut [u8], current: &[u64]) -> Started
-    ensures number_value { (result.number ≡ state.number) × (result.fault ≡ state.fault) }
-    ensures current_after { lent_to result.numbers result.phase medium.new current.now [] [] [] ≡ steps left (lent_to state.numbers state.phase medium.old current.now [] [] []) }
+// The state that a recovery left.
+#[derive(Clone, Copy)]
+pub struct Recovered {
+    pub numbers: Numbers,
+    pub phase: Phase,
+}
+
+// Recovery steps after a start, while a cell is stored, at most so many.
+fn settle(turns: usize, numbers: Numbers, medium: &mut [u8], current: &[u64]) -> Recovered
+    ensures { lent_to result.numbers result.phase medium.new current.now [] [] [] ≡ steps turns (lent_to numbers phases.Recovering medium.old current.now [] [] []) }
 {
-    let number = state.number;
-    let fault = state.fault;
-    while 0 < left {
-        let numbers = state.numbers;
-        let phase = state.phase;
-        let step = recovery_step(numbers, phase, medium, current);
-        let answer = step.answer;
-        let numbers = step.numbers;
-        let phase = step.phase;
-        state = Started {
-            number,
-            fault,
-            numbers,
-            phase,
+    let mut state = Recovered {
+        numbers,
+        phase: Phase::Recovering,
+    };
+    for _ in 0..turns {
+        let Ok(stepped) = recovery_step(state.numbers, state.phase, medium, current) else {
+            return state;
         };
-        left -= 1;
-        let Step::Cell(_) = answer else {
+        state = Recovered {
+            numbers: stepped.numbers,
+            phase: stepped.phase,
+        };
+        let Step::Cell(_) = stepped.step else {
             return state;
         };
     }
     state
 }
 
-// Recovery start, then the steps, with workspaces of zeros as the head says. Where the start is refused, so is the first step.
-fn recover_with(medium: &mut [u8], current: &mut [u64], waiting: &[u8]) -> Started
+// Recovery start, then the steps, with workspaces of zeros as the head says.
+fn recover_with(
+    medium: &mut [u8],
+    current: &mut [u64],
+    waiting: &[u8],
+) -> Result<Recovered, Refusal>
     requires { Zeroed medium.old current.old waiting.now }
     ensures { Recovers medium.old result medium.new }
 {
     let cells = current.len();
     let mut first = [0; 1024];
     let mut last = [0; 1024];
-    let start = recovery_start(
+    let started = recovery_start(
         medium,
         current,
         &mut first[..cells],
         &mut last[..cells],
         waiting,
     );
-    settle(cells + 1, start, medium, current)
+    let numbers = started?;
+    Ok(settle(cells + 1, numbers, medium, current))
 }
 
 // N or C, as a head in rule has it at 0 or 4; of any other head 0, since a start refuses it whatever workspaces it is lent.
@@ -60,16 +70,15 @@ pub fn head_number(medium: &[u8], at: usize) -> usize
     requires { at ≤ 4 }
     ensures { result ≡ head_number at medium.now }
 {
-    let ok = head_ok(medium);
-    if ok {} else {
+    if !head_ok(medium) {
         return 0;
     }
     index(number::get4(medium, at))
 }
 
-// Recovers a medium where it stands, and answers the start's number and what it tells of a row, with the state after the steps. Goes over the
-// table once for each cell that is stored.
-pub fn recover(medium: &mut [u8]) -> Started
+// Recovers a medium where it stands, and answers the state after the steps, or why the start is refused. Goes over the table once for each
+// cell that is stored.
+pub fn recover(medium: &mut [u8]) -> Result<Recovered, Refusal>
     ensures { Recovers medium.old result medium.new }
 {
     let cells = head_number(medium, 0);

@@ -1,15 +1,16 @@
 -- `recovered::head_number` meets its contract. By the test of the head.
-use native.Mathlib.Omega.{arith}
-use mathlib.Core.Path.{◌∙◌}
+use Rattle.std.proofs.Common.{arith}
 use Rattle.recovery.proofs.Recovering.{head_fits}
-use Rattle.recovered.proofs.Settled.{head-number, head-number-none}
+use Rattle.recovered.specs.Recovered.{head_number}
 use Rattle.recovered.proofs.head_number.Goals as goal
 
-pub returns-else-ok : goal.returns-else-ok
-returns-else-ok c = head-number-none _ _ _ c.head_ok-ok.ensures c.if-ok.false
+pub returns-then-not-head_ok : goal.returns-then-not-head_ok
+unfolding head_number
+returns-then-not-head_ok c = grind arith
 
 pub get4-requires : goal.get4-requires
-get4-requires c = let f = head_fits _ _ c.head_ok-ok.ensures c.if-ok.true in omega arith
+get4-requires c = let f = head_fits _ _ c.head_ok.ensures (grind arith) in omega arith
 
 pub returns : goal.returns
-returns c = c.index.ensures.0 ∙ c.get4.ensures ∙ head-number _ _ _ c.head_ok-ok.ensures c.if-ok.true
+unfolding head_number
+returns c = grind arith

@@ -1,22 +1,24 @@
--- `recovered::settle` meets its contract. Invariant: the steps that remain, from here, give what all give from the start.
-use mathlib.Core.Path.{◌∙◌, sym}
-use borrow.Author.Rules.{rules}
-use native.Mathlib.Omega.{arith}
+-- A step that stores a cell leaves the steps that remain, another ends them, and none is left at the last turn.
+use Rattle.std.proofs.Common.{◌-◌, ◌+◌, arith, rules, refl, sym, ◌∙◌}
 use Rattle.recovered.proofs.Settled.{steps_again, steps_stop, steps-end, no_cell}
 use Rattle.recovered.proofs.settle.Goals as goal
 
-pub loop-left-preserved : goal.loop-left-preserved
-loop-left-preserved c =
-    let l = c.loop-left in
-    let r = c.recovery_step-step in
-    let a = c.args in
-    (omega arith, ((l.invariant.1.0.1, l.invariant.1.0.1), l.invariant.1.1 ∙ steps_again l.state.numbers r.result.numbers l.state.phase r.result.phase l.medium _ a.current.now _ r.ensures l.left (omega arith) (grind arith)))
-
 pub returns-in_default : goal.returns-in_default
-returns-in_default c = let l = c.loop-left in
-    let r = c.recovery_step-step in
-    let a = c.args in
-    record { number_value = l.invariant.1.0.1; current_after = steps_stop l.state.numbers r.result.numbers l.state.phase r.result.phase l.medium _ a.current.now _ r.ensures l.left (omega arith) (no_cell r.result.answer (search rules)) ∙ sym l.invariant.1.1 }
+returns-in_default c =
+    let l = c.loop in
+    steps_stop l.state.numbers l.state.numbers l.state.phase l.state.phase l.medium _ c.args.current.now _ c.in_default.ensures.0 (c.args.turns - l.counter) (c.args.turns - (l.counter + 1)) (omega arith) refl ∙ sym l.invariant
+
+pub returns-in_default-step : goal.returns-in_default-step
+returns-in_default-step c =
+    let l = c.loop in
+    let s = c.in-Ok.stepped in
+    steps_stop l.state.numbers s.numbers l.state.phase s.phase l.medium _ c.args.current.now _ c.in-Ok.ensures.0 (c.args.turns - l.counter) (c.args.turns - (l.counter + 1)) (omega arith) (no_cell s.step (search rules)) ∙ sym l.invariant
+
+pub loop-preserved : goal.loop-preserved
+loop-preserved c =
+    let l = c.loop in
+    let s = c.in-Ok.stepped in
+    l.invariant ∙ steps_again l.state.numbers s.numbers l.state.phase s.phase l.medium _ c.args.current.now _ c.in-Ok.ensures.0 (c.args.turns - l.counter) (c.args.turns - (l.counter + 1)) (omega arith) (grind arith)
 
 pub returns : goal.returns
-returns c = record { number_value = c.loop-left.invariant.1.0.0; current_after = steps-end _ c.loop-left.left (omega arith) ∙ sym c.loop-left.invariant.1.1 }
+returns c = steps-end _ (c.args.turns - c.loop.counter) (omega arith) ∙ sym c.loop.invariant
