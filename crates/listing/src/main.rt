@@ -5,7 +5,6 @@
 fn main() {
     let mut image = [0; 40993];
     let got = io::read_full(0, &mut image);
-    let mut text = io::large_buffer();
-    let end = listing_text::listing(&mut image[..got], &mut text);
-    io::write_all(1, &text[..end]);
+    let text = listing_text::listing(&mut image[..got]);
+    io::write_all(1, text.bytes());
 }

@@ -2,41 +2,35 @@
 // that are not empty; or the refusal's number.
 #![tactic(auto)]
 
-ghost use Rattle.std.specs.Prelude.{◌≡◌, ◌≤◌, length};
+ghost use Rattle.std.specs.Prelude.{◌≡◌};
 ghost use Rattle.recovered.specs.Recovered.{recovered};
-ghost use Rattle.text.specs.Text.{Wrote};
 ghost use Rattle.listing_text.specs.Listing.{listing, outcome_text, OnMedium};
 
-use recovered::recover;
-use recovery::Started;
-use text::{put_line, put_table};
+use answer::Refusal;
+use recovered::{Recovered, recover};
+use text::Text;
 
-// The refusal's number, or the table on the medium that a recovery left.
-fn put_outcome(medium: &[u8], outcome: Started, text: &mut [u8]) -> usize
-    requires { (65536 ≤ length text.old) × OnMedium outcome medium.now }
-    ensures wrote { Wrote text.old 0 (outcome_text outcome medium.now) text.new result }
-    ensures upper_bound { result ≤ length text.new }
+// The table on the medium that a recovery left, or the refusal's number.
+#[tactic(auto, using(text::proofs::Writing::length_line_32))]
+fn text_of(medium: &[u8], outcome: Result<Recovered, Refusal>) -> Text<65536>
+    requires { OnMedium outcome medium.now }
+    ensures { result ≡ outcome_text outcome medium.now }
 {
-    if outcome.number != 0 {
-        return put_line(b"refused=", outcome.number, text, 0);
+    let mut text = Text::new();
+    match outcome {
+        Ok(Recovered { numbers, .. }) => {
+            text.put_table(medium, numbers.cells, numbers.slots, numbers.h);
+        }
+        Err(refusal) => text.put_line(b"refused=", u64::from(refusal.number())),
     }
-    put_table(
-        medium,
-        outcome.numbers.cells,
-        outcome.numbers.slots,
-        outcome.numbers.h,
-        text,
-    )
+    text
 }
 
-// Writes the listing of the medium at the start of the text, of which 65,536 bytes are enough for any medium, and answers its length. The
-// medium is recovered where it stands. Goes over the table once for each cell that recovery stores.
-pub fn listing(medium: &mut [u8], text: &mut [u8]) -> usize
-    requires { 65536 ≤ length text.old }
-    ensures wrote { Wrote text.old 0 (listing medium.old) text.new result }
-    ensures upper_bound { result ≤ length text.new }
+// The listing of the medium, which is recovered where it stands. Goes over the table once for each cell that recovery stores.
+pub fn listing(medium: &mut [u8]) -> Text<65536>
+    ensures text { result ≡ listing medium.old }
     ensures medium_after { medium.new ≡ (recovered medium.old).medium }
 {
     let outcome = recover(medium);
-    put_outcome(medium, outcome, text)
+    text_of(medium, outcome)
 }

@@ -18,10 +18,9 @@ const RELEASE_ALONE: u64 = 281474976710656 * 1;
 
 // The listing of a medium, under its name.
 fn show(name: &str, medium: &mut [u8]) {
-    let mut text = io::large_buffer();
     say(format_args!("medium={name}\n"));
-    let end = listing_text::listing(medium, &mut text);
-    io::write_all(1, &text[..end]);
+    let text = listing_text::listing(medium);
+    io::write_all(1, text.bytes());
 }
 
 // The same of an image's first bytes.
@@ -100,8 +99,8 @@ fn largest_medium() {
 // The length of the longest listing that there is but for one cell.
 fn longest_listing() {
     let mut desk = largest(|i| i, u64::MAX);
-    let mut text = io::large_buffer();
-    let length = listing_text::listing(&mut desk.medium, &mut text);
+    let text = listing_text::listing(&mut desk.medium);
+    let length = text.bytes().len();
     say(format_args!("longest={length}\n"));
 }
 
