@@ -17,8 +17,9 @@ use Rattle.std.proofs.lemmas.List.Quantifiers.{position-Some}
 use Rattle.std.proofs.lemmas.Option.{none-some}
 use Rattle.std.proofs.lemmas.List.Sums.{prefix_len-le-length}
 use Rattle.scope.specs.Bytes.{pick}
-use Rattle.recovery.proofs.Recovering.{number-refused}
-use Rattle.values.specs.Values.{Values}
+use Rattle.std.specs.Prelude.{Result, Ok, Err}
+use Rattle.values.specs.declared.Unread.{Unread}
+use Rattle.values.specs.Values.{Values, answer_of}
 use Rattle.months.specs.declared.Met.{Met}
 use Rattle.months.specs.declared.Month.{Month}
 use Rattle.months.specs.Month.{more, release_of, place_from, place, places, releases_of, counts_of, Tally, tally, met_after, add_at, add_cell, add_cells, add_store, add_medium}
@@ -198,16 +199,16 @@ module _ (vs : List ℕ) (t : Tally) (i : ℕ) (now : Tally) (e : add_cells vs t
 
 -- a file
 
-module _ (m : List ℕ) (month : Month) (number : ℕ) (current : List ℕ) (values : Values m number current) (stores : ℕ) (qs : stores ≡ more month.stores) where
-  pub medium-refused : (number ≡ 0 → ⊥) → (out : ℕ) → out ≡ more month.refused
+module _ (m : List ℕ) (month : Month) (r : Result Unit Unread) (current : List ℕ) (values : Values m r current) (stores : ℕ) (qs : stores ≡ more month.stores) where
+  pub medium-refused : (x : Unread) → r ≡ Err x → (out : ℕ) → out ≡ more month.refused
       → tally (record { stores = stores; refused = out; cells = month.cells; met = month.met; others = month.others }) ≡ add_medium m (tally month)
   unfolding add_medium add_store tally
-  medium-refused z out qo = rw (← values.answer, ← number-refused number z, qs, qo)
+  medium-refused x z out qo = let a = ap answer_of (sym z) ∙ values.answer in rw (← a, qs, qo)
 
   -- the month with one more store
   abbrev taken : Month
   taken = record { stores = stores; refused = month.refused; cells = month.cells; met = month.met; others = month.others }
 
-  pub medium-counted : number ≡ 0 → (t : Tally) → t ≡ add_cells current (tally taken) → t ≡ add_medium m (tally month)
+  pub medium-counted : r ≡ Ok tt → (t : Tally) → t ≡ add_cells current (tally taken) → t ≡ add_medium m (tally month)
   unfolding add_medium add_store tally
-  medium-counted z t e = e ∙ rw (← values.answer, z, values.done z, qs)
+  medium-counted z t e = let a = ap answer_of (sym z) ∙ values.answer in e ∙ rw (← a, values.done z, qs)

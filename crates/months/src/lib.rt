@@ -95,10 +95,9 @@ impl Month {
         self.stores = self.stores.saturating_add(1);
         let mut table = [0; 1024];
         let current = &mut table[..head_number(medium, 0)];
-        if values(medium, current) == 0 {
-            self.add_cells(current);
-        } else {
-            self.refused = self.refused.saturating_add(1);
+        match values(medium, current) {
+            Ok(()) => self.add_cells(current),
+            Err(_) => self.refused = self.refused.saturating_add(1),
         }
     }
 }

@@ -19,13 +19,13 @@ values-requires c =
     let n = c.head_number in
     (zeroed m n.result (32 * head_number 4 m) n.ensures refl).current-zero
 
-pub returns-then-values-eq0 : goal.returns-then-values-eq0
-returns-then-values-eq0 c =
+pub returns-in-Ok : goal.returns-in-Ok
+returns-in-Ok c =
     let stores = more_saturating _ _ c.saturating_add-self.ensures (omega arith) in
-    medium-counted _ _ _ _ c.values.ensures _ stores c.if-values-eq0.true _ c.add_cells.ensures
+    medium-counted _ _ _ _ c.values.ensures _ stores c.in-Ok.is _ c.add_cells.ensures
 
-pub returns-else-values-eq0 : goal.returns-else-values-eq0
-returns-else-values-eq0 c =
+pub returns-in-Err : goal.returns-in-Err
+returns-in-Err c =
     let stores = more_saturating _ _ c.saturating_add-self.ensures (omega arith) in
-    let refused = more_saturating _ _ c.saturating_add-self-else-values-eq0.ensures (omega arith) in
-    medium-refused _ _ _ _ c.values.ensures _ stores c.if-values-eq0.false _ refused
+    let refused = more_saturating _ _ c.saturating_add-self-in-Err.ensures (omega arith) in
+    medium-refused _ _ _ _ c.values.ensures _ stores _ c.in-Err.is _ refused
