@@ -11,7 +11,6 @@ use std::rt::HostRuntime;
 pub fn answer(rt: HostRuntime, asked: &[u8]) {
     let mut image = [0; 40993];
     let size = read_file(rt, nth_bytes(asked, 0), &mut image);
-    let mut text = [0; 128];
-    let end = counter_text::screen(&mut image[..size], asked, &mut text);
-    io::write_all(1, &text[..end]);
+    let text = counter_text::screen(&mut image[..size], asked);
+    io::write_all(1, text.bytes());
 }

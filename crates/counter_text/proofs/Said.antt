@@ -3,103 +3,113 @@
 use Prim.Native.Nat.{ℕ, zero, suc, ◌+◌, ◌≤◌, ◌<◌}
 use mathlib.Core.Path.{◌≡◌, refl, sym, ap, ◌∙◌}
 use mathlib.Core.Bool.{Bool, true, false}
-use mathlib.Core.List.{List}
+use mathlib.Core.List.{List, [], ◌++◌, append_assoc, append-nil}
+use native.Mathlib.Decide.{dec_le}
 use native.Mathlib.Omega.{arith}
 use borrow.Author.Tests.{lt-ltb, le-ltb, lt-leb, ltb-false}
-use lib.Dec.{ltb, leb}
+use lib.Dec.{ltb}
 use lib.ListN.{length, length-append}
 use Rattle.scope.specs.Bytes.{pick, number_at}
 use Rattle.scope.specs.Keeper.{is_head_ok, refusal_of}
-use Rattle.recovery.specs.Answers.{numbered}
-use Rattle.recovery.specs.declared.Started.{Started}
 use Rattle.recovery.proofs.Recovering.{head_fits}
 use Rattle.recovered.specs.Recovered.{started, recovered, Recovers}
-use Rattle.text.specs.Text.{line, refused_key, cell_text, Wrote}
-use Rattle.text.proofs.Writing.{wrote_none, wrote_then, wrote_same, length-line, length-cell}
+use Rattle.recovered.specs.declared.Recovered.{Recovered}
+use Rattle.text.specs.Text.{line, refused_key, cell_text}
+use Rattle.text.proofs.Writing.{length_line_32, length_cell}
 use Rattle.lines.specs.Lines.{nth_line}
-use Rattle.lines.specs.declared.Line.TheVariants as lines
-use Rattle.lines.specs.declared.Decimal.{Decimal}
-use Rattle.lines.specs.declared.Decimal.TheVariants as decimal
-use Rattle.counter.specs.declared.Order.{Order}
-use Rattle.counter.specs.declared.Order.TheVariants as order
+use Rattle.std.specs.Prelude.{Option, Some, None, Result, Ok, Err}
+use Rattle.std.specs.Option.{option_or}
+use Rattle.std.specs.Result.{OkIff, result_err, result_unwrap_or}
+use Rattle.answer.specs.Answer as answers
+use Rattle.answer.specs.Answer.{number_of}
+use Rattle.answer.specs.declared.Refusal.{Refusal}
+use Rattle.answer.specs.declared.Refusal.TheVariants.{Unfit, NoCell}
+use Rattle.answer.proofs.Refusals.{number-above}
+use Rattle.lines.specs.declared.Line.{Line}
+use Rattle.counter.specs.declared.Best.{Best}
 use Rattle.counter.specs.declared.Hand.{Hand}
-use Rattle.counter.specs.declared.Hand.TheVariants as hand
-use Rattle.counter.specs.Counter.{span_refusal, cell_to_order, part_in_hand}
+use Rattle.counter.specs.Counter.{in_table, span_refusal, cell_to_order, part_in_hand}
 use Rattle.counter_text.specs.declared.Question.{Question}
-use Rattle.counter_text.specs.declared.Question.TheVariants as ask
-use Rattle.counter_text.specs.Screen.{number_in, unit_with_part, if_given, asked, question, or_else, refused_or, hand_text, hand_line, answered, answer_text, refusal_for, screen_for, screen_text, least, lowest_of, count_of, part_of}
+use Rattle.counter_text.specs.Screen.{number_in, unit, unit_with_part, if_given, asked, question, or_else, number_told, refused_or, hand_text, hand_line, answered, answer_text, refusal_for, screen_for, screen_text, least, lowest_of, count_of, part_of}
 
 -- the question, line by line
 
 module _ (s : List ℕ) where
-  pub no_lowest : number_in 1 s ≡ decimal.Nothing → ask.Nothing ≡ question s
+  pub no_lowest : number_in 1 s ≡ None → None ≡ question s
   unfolding question
   no_lowest e = sym (ap (λ x. asked x (number_in 2 s) (nth_line 3 s) (number_in 3 s)) e)
 
-  module _ (lowest : ℕ) (e : number_in 1 s ≡ decimal.Is lowest) where
-    pub no_count : number_in 2 s ≡ decimal.Nothing → ask.Nothing ≡ question s
+  module _ (lowest : ℕ) (e : number_in 1 s ≡ Some lowest) where
+    pub no_count : number_in 2 s ≡ None → None ≡ question s
     unfolding question
     no_count f = sym (λ i. asked (e i) (f i) (nth_line 3 s) (number_in 3 s))
 
-    module _ (count : ℕ) (f : number_in 2 s ≡ decimal.Is count) where
+    module _ (count : ℕ) (f : number_in 2 s ≡ Some count) where
       unit_asked : if_given (nth_line 3 s) lowest count (number_in 3 s) ≡ question s
       unfolding question
       unit_asked = sym (λ i. asked (e i) (f i) (nth_line 3 s) (number_in 3 s))
 
-      pub no_part : nth_line 3 s ≡ lines.Nothing → ask.Unit lowest count decimal.Nothing ≡ question s
+      pub no_part : nth_line 3 s ≡ None → unit lowest count None ≡ question s
       no_part g = sym (ap (λ x. if_given x lowest count (number_in 3 s)) g) ∙ unit_asked
 
-      module _ (from to next : ℕ) (g : nth_line 3 s ≡ lines.At from to next) where
+      module _ (fourth : Line) (g : nth_line 3 s ≡ Some fourth) where
         part-asked : unit_with_part lowest count (number_in 3 s) ≡ question s
         part-asked = sym (ap (λ x. if_given x lowest count (number_in 3 s)) g) ∙ unit_asked
 
-        pub bad_part : number_in 3 s ≡ decimal.Nothing → ask.Nothing ≡ question s
+        pub bad_part : number_in 3 s ≡ None → None ≡ question s
         bad_part h = sym (ap (unit_with_part lowest count) h) ∙ part-asked
 
-        pub with_part : (p : ℕ) → number_in 3 s ≡ decimal.Is p → ask.Unit lowest count (decimal.Is p) ≡ question s
+        pub with_part : (p : ℕ) → number_in 3 s ≡ Some p → unit lowest count (Some p) ≡ question s
         with_part p h = sym (ap (unit_with_part lowest count) h) ∙ part-asked
 
 -- the unit
 
-pub first-refusal : (x y : ℕ) → (x ≡ 0 → ⊥) → x ≡ or_else x y
-first-refusal zero y h = absurd (h refl)
-first-refusal (suc x) y h = refl
-
 module _ (n : ℕ) where
-  pub least-same : n < 4294967296 → n ≡ least n
+  least-same : n < 4294967296 → n ≡ least n
   unfolding least
   least-same h = simp (lt-ltb n 4294967296 h)
 
-  pub least_most : 4294967296 ≤ n → 4294967295 ≡ least n
+  least_most : 4294967296 ≤ n → 4294967295 ≡ least n
   unfolding least
   least_most h = simp (le-ltb n 4294967296 h)
 
-pub unit_asked_for : (q : Question) (l n a b : ℕ) (p : Decimal) → q ≡ ask.Unit l n p → a ≡ least l → b ≡ least n → (a ≡ lowest_of q) × (b ≡ count_of q)
-unit_asked_for q l n a b p e f g = (f ∙ sym (ap lowest_of e), g ∙ sym (ap count_of e))
+  pub least_is : {E : Type 0} (r : Result ℕ E) → OkIff r (n < 4294967296) n → result_unwrap_or r 4294967295 ≡ least n
+  least_is (Ok x) h = h.1 ∙ least-same h.0
+  least_is (Err e) h = go (dec_le 4294967296 n)
+    where
+      go : Dec (4294967296 ≤ n) → 4294967295 ≡ least n
+      go (yes q) = least_most q
+      go (no q) = absurd (h (omega arith))
 
 -- a number past 32 bits is above any N
 
+abbrev span_judged : Bool → Result Unit Refusal
+span_judged u = pick u (Ok tt) (Err NoCell)
+
 module _ (m : List ℕ) where
-  far : (l n : ℕ) → 4294967295 ≤ l + n → span_refusal m l n ≡ pick (is_head_ok m) 4 1
+  abbrev no_of : ℕ → ℕ → ℕ
+  no_of l n = answers.number_in (span_refusal m l n)
+
+  far : (l n : ℕ) → 4294967295 ≤ l + n → no_of l n ≡ pick (is_head_ok m) 4 1
   unfolding span_refusal
   far l n h = go (is_head_ok m) refl
     where
-      go : (t : Bool) → t ≡ is_head_ok m → ◌≡◌ {A = ℕ} (pick t (pick (leb (l + n) (number_at 4 0 m)) 0 4) 1) (pick t 4 1)
-      go true e = let f = (head_fits m true e refl).cells≤ in ap (λ u. pick u 0 4) (lt-leb (l + n) (number_at 4 0 m) (omega arith))
+      go : (t : Bool) → t ≡ is_head_ok m → ◌≡◌ {A = ℕ} (answers.number_in (pick t (in_table (number_at 4 0 m) l n) (Err Unfit))) (pick t 4 1)
+      go true e = let f = (head_fits m true e refl).cells≤ in ap (λ u. answers.number_in (span_judged u)) (lt-leb (l + n) (number_at 4 0 m) (omega arith))
       go false e = refl
 
   -- refused at once, whatever else would be said
-  far_text : (l n y : ℕ) (t : List ℕ) → 4294967295 ≤ l + n → refused_or (or_else (span_refusal m l n) y) t ≡ line refused_key (pick (is_head_ok m) 4 1)
+  far_text : (l n y : ℕ) (t : List ℕ) → 4294967295 ≤ l + n → refused_or (or_else (no_of l n) y) t ≡ line refused_key (pick (is_head_ok m) 4 1)
   far_text l n y t h = ap (λ x. refused_or (or_else x y) t) (far l n h) ∙ go (is_head_ok m)
     where
       go : (u : Bool) → refused_or (or_else (pick u 4 1) y) t ≡ line refused_key (pick u 4 1)
       go true = refl
       go false = refl
 
-  abbrev said : ℕ → ℕ → Decimal → List ℕ
-  said l n p = refused_or (or_else (span_refusal m l n) (refusal_of (started m).answer)) (answer_text (recovered m).medium l n p)
+  abbrev said : ℕ → ℕ → Option ℕ → List ℕ
+  said l n p = refused_or (or_else (no_of l n) (refusal_of (started m).answer)) (answer_text (recovered m).medium l n p)
 
-  said_least : (l n : ℕ) (p : Decimal) → said (least l) (least n) p ≡ said l n p
+  said_least : (l n : ℕ) (p : Option ℕ) → said (least l) (least n) p ≡ said l n p
   unfolding least
   said_least l n p = go (ltb l 4294967296) (ltb n 4294967296) refl refl
     where
@@ -112,86 +122,81 @@ module _ (m : List ℕ) where
       go false true e f = far_both 4294967295 n (omega arith) (omega (arith, ltb-false l 4294967296 e))
       go false false e f = far_both 4294967295 4294967295 (omega arith) (omega (arith, ltb-false l 4294967296 e))
 
-  screen_said : (s : List ℕ) (q : Question) → q ≡ question s
+  screen_said : (s : List ℕ) (q : Option Question) → q ≡ question s
       → said (lowest_of q) (count_of q) (part_of q) ≡ screen_text s m
   unfolding screen_text refusal_for
   screen_said s q e = go q ∙ ap (λ x. screen_for x m) e
     where
-      go : (x : Question) → said (lowest_of x) (count_of x) (part_of x) ≡ screen_for x m
-      go (ask.Unit l n p) = said_least l n p
-      go ask.Nothing = far_text 4294967295 0 _ _ (omega arith)
+      go : (x : Option Question) → said (lowest_of x) (count_of x) (part_of x) ≡ screen_for x m
+      go (Some q) = said_least q.lowest q.count q.part
+      go None = far_text 4294967295 0 _ _ (omega arith)
+
+-- the first of two refusals
+
+first_told : (n y : ℕ) → (n ≡ 0 → ⊥) → n ≡ or_else n y
+first_told zero y h = absurd (h refl)
+first_told (suc n) y h = refl
+
+told_first : {A B : Type 0} (x : Result A Refusal) (o : Result B Refusal) → number_told (option_or (result_err x) (result_err o)) ≡ or_else (answers.number_in x) (answers.number_in o)
+told_first (Ok a) (Ok b) = refl
+told_first (Ok a) (Err r) = refl
+told_first (Err r) o = first_told (number_of r) (answers.number_in o) (number-above r)
 
 -- the number of a start
-start_number : (m m' : List ℕ) (o : Started) → Recovers m o m' → o.number ≡ refusal_of (started m).answer
-start_number m m' o r = go o.number ∙ ap refusal_of r.answer
-  where
-    go : (x : ℕ) → x ≡ refusal_of (numbered x)
-    go zero = refl
-    go (suc x) = refl
+start_number : (m m' : List ℕ) (o : Result Recovered Refusal) → Recovers m o m' → answers.number_in o ≡ refusal_of (started m).answer
+start_number m m' (Ok s) r = ap refusal_of r.answer
+start_number m m' (Err x) r = ap refusal_of r.answer
 
 -- what the code says is what is asked for
-pub screen_is : (m m' s : List ℕ) (q : Question) (o : Started) (a b x y : ℕ) (p : Decimal) → q ≡ question s → (a ≡ lowest_of q) × (b ≡ count_of q) → p ≡ part_of q
-    → x ≡ span_refusal m a b → Recovers m o m' → y ≡ or_else x o.number → refused_or y (answer_text m' a b p) ≡ screen_text s m
-screen_is m m' s q o a b x y p e u f g r h =
-    (λ i. refused_or ((h ∙ (λ j. or_else (g j) (start_number m m' o r j))) i) (answer_text (r.medium i) a b p))
+pub screen_is : (m m' s : List ℕ) (q : Option Question) (x : Result Unit Refusal) (o : Result Recovered Refusal) (y : Option Refusal) (a b : ℕ) (p : Option ℕ)
+    → q ≡ question s → (a ≡ lowest_of q) × (b ≡ count_of q) → p ≡ part_of q
+    → x ≡ span_refusal m a b → Recovers m o m' → y ≡ option_or (result_err x) (result_err o) → refused_or (number_told y) (answer_text m' a b p) ≡ screen_text s m
+screen_is m m' s q x o y a b p e u f g r h =
+    let n : number_told y ≡ or_else (no_of m a b) (refusal_of (started m).answer) =
+    ap number_told h ∙ told_first x o ∙ (λ i. or_else (answers.number_in (g i)) (start_number m m' o r i)) in
+    (λ i. refused_or (n i) (answer_text (r.medium i) a b p))
     ∙ (λ i. said m (u.0 i) (u.1 i) (f i))
     ∙ screen_said m s q e
 
--- texts, and the room that they take
+-- what is written
 
-pub cell_fits : {t t' : List ℕ} {r : ℕ} (c v : ℕ) → Wrote t 0 (cell_text c v) t' r → r ≤ 62
-cell_fits c v w = omega (arith, w.end, length-cell c v)
-
-length_hand : (h : Hand) → length (hand_text h) ≤ 19
-length_hand hand.ThatOne = omega arith
-length_hand hand.Equal = omega arith
-length_hand hand.Older = omega arith
-length_hand hand.NotListed = omega arith
-length_hand (hand.Refused n) = length-line refused_key n
-
-module _ (m : List ℕ) (l n : ℕ) where
-  length_hand_line : (p : Decimal) → length (hand_line m l n p) ≤ 19
-  length_hand_line (decimal.Is p) = length_hand (part_in_hand m l n p)
-  length_hand_line decimal.Nothing = omega arith
-
-  length-answer : (p : Decimal) → length (answer_text m l n p) ≤ 81
+module _ (m : List ℕ) (l n : ℕ) (p : Option ℕ) where
+  answer_cell : (b : Best) → Ok b ≡ cell_to_order m l n → answer_text m l n p ≡ cell_text b.cell b.value ++ hand_line m l n p
   unfolding answer_text
-  length-answer p = go (cell_to_order m l n)
-    where
-      go : (o : Order) → length (answered o (hand_line m l n p)) ≤ 81
-      go (order.Cell c v) = omega (arith, length-append (cell_text c v) (hand_line m l n p), length-cell c v, length_hand_line p)
-      go (order.Refused x) = omega (arith, length-line refused_key x)
+  answer_cell b e = sym (ap (λ z. answered z (hand_line m l n p)) e)
 
-  pub part_none : (t : List ℕ) (at : ℕ) (p : Decimal) → p ≡ decimal.Nothing → Wrote t at (hand_line m l n p) t at
-  part_none t at p e = wrote_same (wrote_none t at) (sym (ap (hand_line m l n) e))
+  pub answer_refused : (r : Refusal) → Err r ≡ cell_to_order m l n → answer_text m l n p ≡ line refused_key (number_of r)
+  unfolding answer_text
+  answer_refused r e = sym (ap (λ z. answered z (hand_line m l n p)) e)
 
-  pub part_said : {t t' : List ℕ} {at r : ℕ} (p : Decimal) (x : ℕ) (h : Hand) → p ≡ decimal.Is x → h ≡ part_in_hand m l n x → Wrote t at (hand_text h) t' r
-      → Wrote t at (hand_line m l n p) t' r
-  part_said p x h e f w = wrote_same w (ap hand_text f ∙ sym (ap (hand_line m l n) e))
+  part_none : p ≡ None → hand_line m l n p ≡ []
+  part_none e = ap (hand_line m l n) e
 
-  module _ (p : Decimal) (o : Order) (f : o ≡ cell_to_order m l n) where
-    as_answered : answered o (hand_line m l n p) ≡ answer_text m l n p
-    unfolding answer_text
-    as_answered = ap (λ x. answered x (hand_line m l n p)) f
+  part_said : (x : ℕ) → p ≡ Some x → hand_line m l n p ≡ hand_text (part_in_hand m l n x)
+  part_said x e = ap (hand_line m l n) e
 
-    pub answer-cell : {t t₁ t₂ : List ℕ} {a r : ℕ} (c v : ℕ) → o ≡ order.Cell c v → Wrote t 0 (cell_text c v) t₁ a → Wrote t₁ a (hand_line m l n p) t₂ r → 81 ≤ length t
-        → Wrote t 0 (answer_text m l n p) t₂ r
-    answer-cell c v e w u h =
-        let x = length-cell c v in
-        let y = length_hand_line p in
-        wrote_same (wrote_then w u (omega (arith, w.end, u.end))) (ap (λ z. answered z (hand_line m l n p)) (sym e) ∙ as_answered)
+  module _ (t t₁ : List ℕ) (b : Best) (e : Ok b ≡ cell_to_order m l n) (w : t₁ ≡ t ++ cell_text b.cell b.value) where
+    said_then : (more : List ℕ) → more ≡ hand_line m l n p → t₁ ++ more ≡ t ++ answer_text m l n p
+    said_then more h =
+        (λ i. w i ++ h i)
+        ∙ append_assoc t (cell_text b.cell b.value) (hand_line m l n p)
+        ∙ ap (λ a. t ++ a) (sym (answer_cell b e))
 
-    pub answer-refused : {t t₁ : List ℕ} {r : ℕ} (x : ℕ) → o ≡ order.Refused x → Wrote t 0 (line refused_key x) t₁ r → Wrote t 0 (answer_text m l n p) t₁ r
-    answer-refused x e w = wrote_same w (ap (λ z. answered z (hand_line m l n p)) (sym e) ∙ as_answered)
+    pub said_with_part : (t₂ : List ℕ) (x : ℕ) (h : Result Hand Refusal) → p ≡ Some x → h ≡ part_in_hand m l n x → t₂ ≡ t₁ ++ hand_text h → t₂ ≡ t ++ answer_text m l n p
+    said_with_part t₂ x h q r z = z ∙ said_then (hand_text h) (ap hand_text r ∙ sym (part_said x q))
 
-  pub answer_fits : {t t' : List ℕ} {r : ℕ} (p : Decimal) → Wrote t 0 (answer_text m l n p) t' r → r ≤ 81
-  answer_fits p w = omega (arith, w.end, length-answer p)
+    pub said_alone : p ≡ None → t₁ ≡ t ++ answer_text m l n p
+    said_alone q = sym (append-nil t₁) ∙ said_then [] (sym (part_none q))
+
+pub ruleset answer_lines = (length-append, length_cell, answer_refused)
 
 -- one refusal, or the answers
 
-pub screen_refused : {t t' : List ℕ} {r : ℕ} (x : ℕ) (a : List ℕ) → (x ≡ 0 → ⊥) → Wrote t 0 (line refused_key x) t' r → Wrote t 0 (refused_or x a) t' r × (r ≤ 19)
-screen_refused zero a h w = absurd (h refl)
-screen_refused (suc x) a h w = (w, omega (arith, w.end, length-line refused_key (suc x)))
+refused_text : (n : ℕ) (a : List ℕ) → (n ≡ 0 → ⊥) → refused_or n a ≡ line refused_key n
+refused_text zero a h = absurd (h refl)
+refused_text (suc n) a h = refl
 
-pub screen_answered : {t t' : List ℕ} {r : ℕ} (x : ℕ) (a : List ℕ) → x ≡ 0 → Wrote t 0 a t' r → Wrote t 0 (refused_or x a) t' r
-screen_answered x a e w = wrote_same w (sym (ap (λ z. refused_or z a) e))
+pub screen_refused : (r : Refusal) (a : List ℕ) → refused_or (number_of r) a ≡ line refused_key (number_of r)
+screen_refused r a = refused_text (number_of r) a (number-above r)
+
+pub ruleset screens = screen_refused

@@ -1,10 +1,7 @@
--- `counter_text::least` meets its contract. By its test.
-use native.Mathlib.Omega.{arith}
-use Rattle.counter_text.proofs.Said.{least-same, least_most}
+-- `counter_text::least` meets its contract. By whether the number has 32 bits.
+use mathlib.Core.Path.{◌∙◌}
+use Rattle.counter_text.proofs.Said.{least_is}
 use Rattle.counter_text.proofs.least.Goals as goal
 
-pub returns-then-n-lt4294967296 : goal.returns-then-n-lt4294967296
-returns-then-n-lt4294967296 c = least-same _ (omega arith)
-
 pub returns : goal.returns
-returns c = least_most _ (omega arith)
+returns c = c.unwrap_or.ensures ∙ least_is _ _ c.try_from.ensures

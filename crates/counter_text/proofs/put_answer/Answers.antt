@@ -1,16 +1,9 @@
 -- `counter_text::put_answer` meets its contract. The cell and the part in hand, or the refusal.
-use native.Mathlib.Omega.{arith}
-use Rattle.counter_text.proofs.Said.{cell_fits, answer-cell, answer-refused}
+use Rattle.counter_text.proofs.Said.{said_with_part, said_alone}
 use Rattle.counter_text.proofs.put_answer.Goals as goal
 
-pub put_part-requires : goal.put_part-requires
-put_part-requires c =
-    let w = c.put_cell-at in
-    let f = cell_fits _ _ w.ensures in
-    omega (arith, w.auto, c.requires)
+pub returns-in-Some : goal.returns-in-Some
+returns-in-Some c = said_with_part _ _ _ _ _ _ _ c.in-Ok.ensures c.put_cell.ensures _ _ _ c.in-Some.is c.part_in_hand.ensures c.put_hand.ensures
 
-pub returns-in-Cell : goal.returns-in-Cell
-returns-in-Cell c = answer-cell _ _ _ _ _ c.cell_to_order-order.ensures _ _ c.in-Cell.is c.put_cell-at.ensures c.put_part.ensures c.requires
-
-pub returns-in-Refused : goal.returns-in-Refused
-returns-in-Refused c = answer-refused _ _ _ _ _ c.cell_to_order-order.ensures _ c.in-Refused.is c.put_line.ensures
+pub returns-in_default : goal.returns-in_default
+returns-in_default c = said_alone _ _ _ _ _ _ _ c.in-Ok.ensures c.put_cell.ensures c.in_default.is
