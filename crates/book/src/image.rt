@@ -1,5 +1,5 @@
 // Media as bytes: what one has, and what differs between two.
-ghost use Rattle.std.specs.Prelude.{◌≡◌, ◌≢◌, ◌+◌, ◌*◌, ◌%◌, ◌<◌, ◌≤◌, ◌↔◌, IsTrue, min, length, take, drop, ◌++◌, replicate, EachIndex, slice_index};
+ghost use Rattle.std.specs.Prelude.{◌≡◌, ◌≢◌, ◌+◌, ◌*◌, ◌<◌, ◌≤◌, ◌↔◌, IsTrue, min, length, take, drop, ◌++◌, replicate, EachIndex, slice_index};
 ghost use Rattle.scope.specs.Bytes.{number_at};
 ghost use Rattle.scope.specs.Calls.{act};
 ghost use Rattle.scope.specs.Keeper.{part_of, row_at};

@@ -6,22 +6,22 @@ ghost use Rattle.std.specs.Prelude.{◌≡◌};
 ghost use Rattle.recovered.specs.Recovered.{recovered};
 ghost use Rattle.listing_text.specs.Listing.{listing, outcome_text, OnMedium};
 
-use recovered::recover;
-use recovery::Started;
+use answer::Refusal;
+use recovered::{Recovered, recover};
 use text::Text;
 
-// The refusal's number, or the table on the medium that a recovery left.
-#[tactic(auto, using(crate::proofs::Listed::outcome_lines))]
-fn text_of(medium: &[u8], outcome: Started) -> Text<65536>
+// The table on the medium that a recovery left, or the refusal's number.
+#[tactic(auto, using(text::proofs::Writing::length_line_32))]
+fn text_of(medium: &[u8], outcome: Result<Recovered, Refusal>) -> Text<65536>
     requires { OnMedium outcome medium.now }
     ensures { result ≡ outcome_text outcome medium.now }
 {
     let mut text = Text::new();
-    if outcome.number != 0 {
-        text.put_line(b"refused=", u64::from(outcome.number));
-    } else {
-        let numbers = outcome.numbers;
-        text.put_table(medium, numbers.cells, numbers.slots, numbers.h);
+    match outcome {
+        Ok(Recovered { numbers, .. }) => {
+            text.put_table(medium, numbers.cells, numbers.slots, numbers.h);
+        }
+        Err(refusal) => text.put_line(b"refused=", u64::from(refusal.number())),
     }
     text
 }
