@@ -71,7 +71,7 @@ impl Display for Told {
 }
 
 // A refusal's number, 0 where there is none.
-pub fn number<T>(answer: Result<T, Refusal>) -> u32 {
+pub fn number<T: Drop>(answer: Result<T, Refusal>) -> u32 {
     answer.err().map_or(0, |why| why.number())
 }
 
