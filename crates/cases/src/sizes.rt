@@ -1,9 +1,9 @@
 // Case 11, sizes of a medium, and case 12, the last cell of a table and the one after it.
 use medium::head::format;
-use tried::{Desk, SmallDesk, say, tell};
+use tried::{Desk, SmallDesk, number, say, tell};
 
 fn tell_format(cells: u32, slots: u32, medium: &mut [u8]) {
-    let number = format(medium, cells, slots);
+    let number = number(format(medium, cells, slots));
     let length = medium.len();
     say(format_args!(
         "case=11 format cells={cells} slots={slots} length={length} refused={number}\n"

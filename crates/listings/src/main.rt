@@ -105,7 +105,7 @@ fn longest_listing() {
 
 // A medium's first bytes in an image: two cells and four rows, formatted.
 fn format_small(image: &mut [u8; 40993]) {
-    format(&mut image[..176], 2, 4);
+    let _ = format(&mut image[..176], 2, 4);
 }
 
 // A small medium with one byte changed, and of another length.
@@ -153,7 +153,7 @@ fn sizes(image: &mut [u8; 40993]) {
 }
 
 fn longest_lengths(image: &mut [u8; 40993]) {
-    format(&mut image[..40992], 1024, 1024);
+    let _ = format(&mut image[..40992], 1024, 1024);
     show_part("40992 bytes", image, 40992);
     show_part("overlong", image, 40993);
 }

@@ -12,11 +12,14 @@
 // Only the answer of reading a row, the entry or the first thing wrong, says what a row means.
 #![tactic(auto)]
 
-ghost use Rattle.std.specs.Prelude.{◌≡◌, ◌+◌, ◌<◌, ◌≤◌, length};
+ghost use Rattle.std.specs.Prelude.{◌≡◌, ◌+◌, ◌<◌, ◌≤◌, length, Some};
 ghost use Rattle.std.proofs.Math.Option.{some};
 ghost use Rattle.scope.specs.Bytes.{put};
 ghost use Rattle.scope.specs.Row.{row_bytes, entry_of, read_row, wrong_entry, is_update, is_writable, write_row};
 ghost use Rattle.row.specs.Row.{entry, reason, meaning, reason_of, bare_end, left_over, unread_as, wrong_of};
+ghost use Rattle.row.specs.Words.{reason_text, fault_text};
+
+use std::fmt;
 
 // An entry of the journal, without its number.
 #[derive(Clone, Copy, Debug, PartialEq, Eq)]
@@ -50,11 +53,41 @@ pub enum Reason {
     Hole,
 }
 
+// In words for people.
+impl fmt::Display for Reason {
+    ghost output = { λ reason. Some (reason_text reason) };
+
+    fn fmt<W: fmt::Write>(&self, f: &mut fmt::Formatter<W>) -> fmt::Result {
+        f.write_str(match self {
+            Reason::TooShort => "too short",
+            Reason::OtherNumber => "other number",
+            Reason::UnknownKind => "unknown kind",
+            Reason::FillerNotZero => "filler not zero",
+            Reason::CellOutOfRange => "cell out of range",
+            Reason::CellLeft => "cell left in an end entry",
+            Reason::OldLeft => "old left in an end entry",
+            Reason::NewLeft => "new left in an end entry",
+            Reason::NotUpdate => "not an update",
+            Reason::Hole => "hole",
+        })
+    }
+}
+
 // What is told of rows: what is wrong with one, and the number of the entry expected there.
 #[derive(Clone, Copy, Debug, PartialEq, Eq)]
 pub struct Fault {
     pub reason: Reason,
     pub entry: u32,
+}
+
+// `entry 3: cell out of range`.
+impl fmt::Display for Fault {
+    ghost output = { λ fault. Some (fault_text fault) };
+
+    fn fmt<W: fmt::Write>(&self, f: &mut fmt::Formatter<W>) -> fmt::Result {
+        let Fault { reason, entry } = *self;
+        write!(f, "entry {entry}: {reason}")
+    }
 }
 
 // An end, in whose row cell, old and new are zero.

@@ -1,62 +1,50 @@
 // A desk: a keeper with the medium and the workspaces that it is lent. Each call of the library is a method, and its answer can be told in a line.
 #![tactic(auto)]
 
-use keeper::{Answer, Back, Outcome, State};
+use answer::Refusal;
+use keeper::{Back, Outcome, State};
 use medium::head::format;
 use recovery::Step;
-use row::Fault;
 use state::{Numbers, Phase};
 use std::fmt;
 use std::fmt::Display;
 
-// What a call answered; beside a refusal's number what is wrong with a row.
+// What a call answered, to be told in a line; beside a refusal's number what is wrong with a row.
 #[derive(Clone, Copy)]
 pub enum Told {
     Done(u64),
-    Cell(u32),
-    Head,
-    Stored,
-    Clean,
-    Refused { number: u32, fault: Fault },
-    // A look's number, and how long the part is.
-    Part { number: u32, length: usize },
+    Step(Step),
+    Back(Back),
+    Refused(Refusal),
+    // A look's refusal, 0 where there is none, and how long the part is.
+    Part { refused: u32, length: usize },
     // The last entry made.
     Last(u32),
 }
 
-impl From<Outcome> for Told {
-    fn from(out: Outcome) -> Told {
-        let fault = out.fault;
-        match out.answer {
-            Answer::Done(value) => Told::Done(value),
-            Answer::Refused(number) => Told::Refused { number, fault },
-        }
+impl From<u64> for Told {
+    fn from(value: u64) -> Told {
+        Told::Done(value)
     }
 }
 
 impl From<Step> for Told {
-    fn from(answer: Step) -> Told {
-        match answer {
-            Step::Cell(cell) => Told::Cell(cell),
-            Step::Head => Told::Head,
-            Step::Clean => Told::Clean,
-            Step::Refused(number) => Told::Refused {
-                number,
-                fault: Fault::None,
-            },
-        }
+    fn from(step: Step) -> Told {
+        Told::Step(step)
     }
 }
 
 impl From<Back> for Told {
-    fn from(answer: Back) -> Told {
-        match answer {
-            Back::Stored => Told::Stored,
-            Back::Clean => Told::Clean,
-            Back::Refused(number) => Told::Refused {
-                number,
-                fault: Fault::None,
-            },
+    fn from(back: Back) -> Told {
+        Told::Back(back)
+    }
+}
+
+impl<T: Into<Told>> From<Outcome<T>> for Told {
+    fn from(out: Outcome<T>) -> Told {
+        match out.answer {
+            Ok(value) => value.into(),
+            Err(why) => Told::Refused(why),
         }
     }
 }
@@ -65,15 +53,26 @@ impl Display for Told {
     fn fmt<W: fmt::Write>(&self, f: &mut fmt::Formatter<W>) -> fmt::Result {
         match *self {
             Told::Done(value) => write!(f, "done={value}"),
-            Told::Cell(cell) => write!(f, "cell={cell}"),
-            Told::Head => write!(f, "head=1"),
-            Told::Stored => write!(f, "stored=1"),
-            Told::Clean => write!(f, "clean=1"),
-            Told::Refused { number, .. } => write!(f, "refused={number}"),
-            Told::Part { number, length } => write!(f, "refused={number} part={length}"),
+            Told::Step(Step::Cell(cell)) => write!(f, "cell={cell}"),
+            Told::Step(Step::Head) => f.write_str("head=1"),
+            Told::Back(Back::Stored) => f.write_str("stored=1"),
+            Told::Step(Step::Clean) | Told::Back(Back::Clean) => f.write_str("clean=1"),
+            Told::Refused(why) => {
+                write!(f, "refused={}", why.number())?;
+                match why.fault() {
+                    Some(fault) => write!(f, " {fault}"),
+                    None => Ok(()),
+                }
+            }
+            Told::Part { refused, length } => write!(f, "refused={refused} part={length}"),
             Told::Last(entry) => write!(f, "last={entry}"),
         }
     }
+}
+
+// A refusal's number, 0 where there is none.
+pub fn number<T: Drop>(answer: Result<T, Refusal>) -> u32 {
+    answer.err().map_or(0, |why| why.number())
 }
 
 // Words printed, of at most 128 bytes.
@@ -81,18 +80,9 @@ pub fn say<D: Display + Drop>(words: D) {
     io::write_all(1, fmt::InlineText::<128>::of(words).as_str().as_bytes());
 }
 
-// What was tried and its answer, in one line, and beside a refusal what is wrong with a row.
+// What was tried and its answer, in one line.
 pub fn tell(what: &str, told: Told) {
-    say(format_args!("{what} {told}"));
-    if let Told::Refused {
-        fault: Fault::At { reason, entry },
-        ..
-    } = told
-    {
-        say(" ");
-        faults::print(entry, reason);
-    }
-    say("\n");
+    say(format_args!("{what} {told}\n"));
 }
 
 // A keeper of N cells: its medium of M bytes, its workspaces, with W bytes of waiting rows, and its state.
@@ -113,7 +103,7 @@ impl<const N: usize, const M: usize, const W: usize> Desk<N, M, W> {
     // Formatted, with no state.
     pub fn formatted(cells: u32, slots: u32) -> Self {
         let mut medium = [0; M];
-        format(&mut medium, cells, slots);
+        let _ = format(&mut medium, cells, slots);
         let numbers = Numbers {
             cells: 0,
             slots: 0,
@@ -143,6 +133,12 @@ impl<const N: usize, const M: usize, const W: usize> Desk<N, M, W> {
         desk
     }
 
+    // Goes on with the state after a call, and answers what the call did.
+    fn after<T: Into<Told>>(&mut self, out: Outcome<T>) -> Told {
+        self.state = out.state;
+        Told::from(out)
+    }
+
     pub fn start(&mut self) -> Told {
         let medium = self.medium;
         self.start_on(&medium)
@@ -157,14 +153,12 @@ impl<const N: usize, const M: usize, const W: usize> Desk<N, M, W> {
             &mut self.last,
             &self.waiting,
         );
-        self.state = out.state;
-        Told::from(out)
+        self.after(out)
     }
 
     pub fn step(&mut self) -> Told {
         let out = self.state.recovery_step(&mut self.medium, &self.current);
-        self.state = out.state;
-        Told::from(out.answer)
+        self.after(out)
     }
 
     pub fn begin(&mut self) -> Told {
@@ -174,8 +168,7 @@ impl<const N: usize, const M: usize, const W: usize> Desk<N, M, W> {
             &mut self.last,
             &mut self.waiting,
         );
-        self.state = out.state;
-        Told::from(out)
+        self.after(out)
     }
 
     pub fn abort(&mut self) -> Told {
@@ -185,8 +178,7 @@ impl<const N: usize, const M: usize, const W: usize> Desk<N, M, W> {
             &mut self.last,
             &mut self.waiting,
         );
-        self.state = out.state;
-        Told::from(out)
+        self.after(out)
     }
 
     pub fn write(&mut self, cell: u32, value: u64) -> Told {
@@ -198,8 +190,7 @@ impl<const N: usize, const M: usize, const W: usize> Desk<N, M, W> {
             &mut self.last,
             &mut self.waiting,
         );
-        self.state = out.state;
-        Told::from(out)
+        self.after(out)
     }
 
     pub fn read(&self, cell: u32) -> Told {
@@ -208,8 +199,7 @@ impl<const N: usize, const M: usize, const W: usize> Desk<N, M, W> {
 
     pub fn commit(&mut self) -> Told {
         let out = self.state.commit(&mut self.medium, &mut self.waiting);
-        self.state = out.state;
-        Told::from(out)
+        self.after(out)
     }
 
     // What a commit answers that is lent another medium and other waiting rows.
@@ -219,8 +209,7 @@ impl<const N: usize, const M: usize, const W: usize> Desk<N, M, W> {
 
     pub fn force(&mut self) -> Told {
         let out = self.state.force(&mut self.medium, &self.waiting);
-        self.state = out.state;
-        Told::from(out)
+        self.after(out)
     }
 
     pub fn write_back(&mut self, cell: u32) -> Told {
@@ -231,22 +220,18 @@ impl<const N: usize, const M: usize, const W: usize> Desk<N, M, W> {
             &mut self.first,
             &self.last,
         );
-        self.state = out.state;
-        Told::from(out.answer)
+        self.after(out)
     }
 
     pub fn cut(&mut self, p: u32) -> Told {
         let out = self.state.cut(p, &mut self.medium, &self.first);
-        self.state = out.state;
-        Told::from(out)
+        self.after(out)
     }
 
     pub fn look(&self, n: u32) -> Told {
-        let number = self.state.look_number(n, &self.medium, &self.waiting);
-        let part = self.state.look(n, &self.medium, &self.waiting);
         Told::Part {
-            number,
-            length: part.len(),
+            refused: number(self.state.try_look(n, &self.medium, &self.waiting)),
+            length: self.state.look(n, &self.medium, &self.waiting).len(),
         }
     }
 

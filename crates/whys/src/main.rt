@@ -17,7 +17,7 @@ fn update(cell: u32, old: u64, new: u64) -> Entry {
 // Two cells, the first with B in the table, and four entries at most after h, each in its row of four.
 fn made(h: u8, entries: &[Entry]) -> [u8; 176] {
     let mut medium = [0; 176];
-    format(&mut medium, 2, 4);
+    let _ = format(&mut medium, 2, 4);
     number::put4(&mut medium, 8, u32::from(h));
     number::put8(&mut medium, 160, B);
     for (i, &what) in (0u8..4).zip(entries) {
