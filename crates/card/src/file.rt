@@ -147,9 +147,7 @@ impl Session {
         let Some(medium) = medium.get_mut(..size) else {
             return Err(Unformatted::Sizes);
         };
-        if medium::head::format(medium, cells, slots) != 0 {
-            return Err(Unformatted::Sizes);
-        }
+        medium::head::format(medium, cells, slots).map_err(|_| Unformatted::Sizes)?;
         self.file.set_len(size as u64)?;
         self.store(medium, 0)?;
         self.state = ZEROS;

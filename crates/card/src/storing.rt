@@ -3,7 +3,8 @@
 // the order is answered.
 use crate::desk::Desk;
 use crate::file::Session;
-use console::{Call, Place, Refused, Said};
+use answer::Refusal;
+use console::{Call, Place, Said};
 use std::io::ErrorKind;
 
 const SECTOR: usize = 512;
@@ -14,7 +15,7 @@ const MOST_ROWS: u32 = 1024;
 // Why not every entry that waits was stored: force was refused, or the file did not take a row.
 #[derive(Drop)]
 pub enum Unstored {
-    Refused(Refused),
+    Refused(Refusal),
     File(std::io::Error),
 }
 

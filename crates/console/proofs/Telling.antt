@@ -1,14 +1,13 @@
--- What a call tells of rows doesn't depend on a buffer that it is not lent; one that is accepted tells nothing, and write-back and recovery step
--- judge no row.
+-- What a call tells of rows doesn't depend on a buffer that it is not lent.
 use Prim.Native.Nat.{ℕ}
 use mathlib.Core.Path.{◌≡◌, refl, sym, ap, ◌∙◌}
-use mathlib.Core.Bool.{Bool, true, false, ◌||◌}
+use mathlib.Core.Bool.{◌||◌}
 use lib.Dec.{eqb}
 use Rattle.scope.specs.Bytes.{pick}
 use Rattle.scope.specs.Row.{faultless}
 use Rattle.scope.specs.Keeper.{Keeper, State, Outcome, refusal_of, waiting_row, medium_row, with_state, with_medium, with_waiting}
 use Rattle.scope.specs.Refusals.{Call, Format, RecoveryStart, RecoveryStep, Begin, Commit, Abort, Force, TableView, Read, WriteBack, Cut, Look, Write, lent, lent_start, unfit, tests, refusal, open_fault, waiting_fault, bad_row, told}
-use Rattle.scope.specs.Calls.{act, performed}
+use Rattle.scope.specs.Calls.{performed}
 use Rattle.scope.proofs.Callers.{refusal-answered}
 use Rattle.scope.proofs.Frames.{onto, frame}
 
@@ -19,11 +18,6 @@ tells_by : (a : Call) (g k : Keeper) → refusal a (onto a g k) ≡ refusal a k 
 unfolding told
 tells_by a g k e b =
     ap (λ (n : ℕ). pick (eqb n 2 || eqb n 7) (bad_row a (onto a g k)) faultless) e ∙ ap (λ f. pick (eqb (refusal a k) 2 || eqb (refusal a k) 7) f faultless) b
-
--- a call that is accepted tells nothing
-pub tells_nothing : (a : Call) (k : Keeper) → refusal_of (act a k).answer ≡ 0 → told a k ≡ faultless
-unfolding told
-tells_nothing a k e = let z : refusal a k ≡ 0 = sym (refusal-answered a k) ∙ e in rw z refl
 
 -- ONE LAW FOR ALL CALLS
 pub tells_frame : (a : Call) (g k : Keeper) → told a (onto a g k) ≡ told a k
@@ -46,16 +40,3 @@ tells_frame (Write c v) g k = tells_by (Write c v) g k refl refl
 pub start_tells : (s : State) (k : Keeper) → told RecoveryStart (with_state s k) ≡ told RecoveryStart k
 unfolding told bad_row refusal tests lent_start with_state
 start_tells s k = refl
-
--- calls that judge no row
-nothing : (b : Bool) → faultless ≡ pick b faultless faultless
-nothing true = refl
-nothing false = refl
-
-pub back_silent : (c : ℕ) (k : Keeper) → faultless ≡ told (WriteBack c) k
-unfolding told bad_row
-back_silent c k = nothing (eqb (refusal (WriteBack c) k) 2 || eqb (refusal (WriteBack c) k) 7)
-
-pub step_silent : (k : Keeper) → faultless ≡ told RecoveryStep k
-unfolding told bad_row
-step_silent k = nothing (eqb (refusal RecoveryStep k) 2 || eqb (refusal RecoveryStep k) 7)

@@ -1,18 +1,16 @@
 -- A call that is made: which of the papers' calls it is, what its `Did` says of the answer, and where its stores stand.
-use Rattle.std.specs.Prelude.{ℕ, zero, suc, ◌+◌, ◌-◌, ◌≡◌, List, Option, Some, None, Result, Ok, Err, ltb, take, drop}
+use Rattle.std.specs.Prelude.{ℕ, zero, suc, ◌+◌, ◌-◌, ◌≡◌, List, Option, Some, None, ltb, take, drop}
 use Rattle.scope.specs.Bytes.{pick, put}
 use Rattle.scope.specs.Keeper.{Keeper, Answer, done, refused, cell, head, clean, stored, part, value_of, row_at, cell_at}
 use Rattle.scope.specs.Refusals.{Call, Format, RecoveryStart, RecoveryStep, Begin, Commit, Abort, Force, TableView, Read, WriteBack, Cut, Look, Write, told}
 use Rattle.scope.specs.Calls.{act}
-use Rattle.row.specs.Row.{fault_of}
-use Rattle.row.specs.declared.Fault.{Fault}
-use Rattle.row.specs.declared.Fault.TheVariants as faults
-use Rattle.keeper.specs.declared.State.{State}
+use Rattle.answer.specs.Answer.{told_in}
+use Rattle.keeper.specs.Answers.{answer_of}
+use Rattle.keeper.specs.declared.Outcome.{Outcome}
 use Rattle.console.specs.declared.Call as console
 use Rattle.console.specs.declared.Call.TheVariants as calls
 use Rattle.console.specs.declared.Said.{Said}
 use Rattle.console.specs.declared.Said.TheVariants as said
-use Rattle.console.specs.declared.Refused.{Refused}
 use Rattle.console.specs.declared.Place.{Place}
 use Rattle.console.specs.declared.Did.{Did}
 
@@ -28,20 +26,13 @@ call_of (calls.WriteBack c) = WriteBack c
 call_of calls.Step = RecoveryStep
 call_of calls.Start = RecoveryStart
 
--- what an answer says, and beside a refusal's number what it tells of rows
-abbrev pub said_of : Answer → Fault → Result Said Refused
-said_of (done v) t = Ok (said.Plain v)
-said_of (refused n) t = Err (record { number = n; fault = t })
-said_of stored t = Ok said.Stored
-said_of clean t = Ok said.Clean
-said_of (cell c) t = Ok (said.Cell c)
-said_of head t = Ok said.Head
-said_of (part b) t = Ok (said.Plain 0)
-
--- what it tells of rows: nothing where the call was accepted
-abbrev pub fault_said : Result Said Refused → Fault
-fault_said (Ok s) = faults.None
-fault_said (Err r) = r.fault
+-- what is meant by what an accepted call says
+abbrev pub said_of : Said → Answer
+said_of (said.Plain v) = done v
+said_of said.Stored = stored
+said_of said.Clean = clean
+said_of (said.Cell c) = cell c
+said_of said.Head = head
 
 abbrev pub head_place : Place
 head_place = record { at = 0; size = 32 }
@@ -98,8 +89,12 @@ place_of (Cut p) slots a = cut_place a
 place_of (Look n) slots a = None
 place_of (Write c v) slots a = None
 
-abbrev pub did_of : Answer → Fault → State → Option Place → Did
-did_of a t s p = record { state = s; said = said_of a t; place = p }
+-- WHAT IS SAID of a call's outcome, by what its answers mean
+pub record Says {T : Type 0} (f : T → Answer) (out : Outcome T) (p : Option Place) (d : Did) : Type 0 where
+  pub state : d.state ≡ out.state
+  pub answer : answer_of said_of d.said ≡ answer_of f out.answer
+  pub fault : told_in d.said ≡ told_in out.answer
+  pub place : d.place ≡ p
 
 -- the rows of the `count` entries after n brought from a medium, one after the other
 unfoldable pub rows_brought : ℕ → ℕ → ℕ → List ℕ → List ℕ → List ℕ
@@ -132,9 +127,11 @@ brought (Write c v) k a p m = part_brought p m k.medium
 pub record Made (a : Call) (before : Keeper) (d : Did) (after : Keeper) : Type 0 where
   -- the state and every byte of what was lent are as the papers' call leaves them
   pub keeper : after ≡ (act a before).keeper
-  -- the answer is its answer, and the place is that of its one store; commit, which stores rows, names none
-  pub did : d ≡ did_of (act a before).answer (fault_said d.said) d.state (place_of a before.state.slots (act a before).answer)
+  -- the answer is its answer
+  pub said : answer_of said_of d.said ≡ (act a before).answer
   -- beside 2 and 7 it tells what is wrong with the lowest bad row
-  pub tells : fault_of (fault_said d.said) ≡ told a before
+  pub tells : told_in d.said ≡ told a before
+  -- the place is that of its one store; commit, which stores rows, names none
+  pub place : d.place ≡ place_of a before.state.slots (act a before).answer
   -- what is brought from the medium after the call makes it of the one before
   pub brings : after.medium ≡ brought a before (act a before).answer d.place after.medium

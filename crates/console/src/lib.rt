@@ -3,15 +3,15 @@
 #![tactic(auto)]
 
 ghost use Rattle.std.specs.Prelude.{◌≡◌, ◌+◌, ◌<◌};
-ghost use Rattle.scope.specs.Keeper.{refused, value_of, row_at};
+ghost use Rattle.scope.specs.Keeper.{done, value_of, row_at};
 ghost use Rattle.recovery.specs.Answers.{stepped};
-ghost use Rattle.keeper.specs.Answers.{answered, written_back, handed};
-ghost use Rattle.console.specs.Made.{row_place, cell_place, force_place, cut_place, back_place, step_place, did_of, call_of, Made};
+ghost use Rattle.keeper.specs.Answers.{answer_of, written_back, handed};
+ghost use Rattle.console.specs.Made.{row_place, cell_place, force_place, cut_place, back_place, step_place, Says, call_of, Made};
 
-use keeper::{Answer, Back, Outcome, State, Stepped, WrittenBack};
+use answer::Refusal;
+use keeper::{Back, Outcome, State};
 use medium::layout;
 use recovery::Step;
-use row::Fault;
 
 #[derive(Clone, Copy, Debug, PartialEq, Eq)]
 pub enum Call {
@@ -38,13 +38,6 @@ pub enum Said {
     Head,
 }
 
-// A refusal's number, and what it tells of rows.
-#[derive(Clone, Copy)]
-pub struct Refused {
-    pub number: u32,
-    pub fault: Fault,
-}
-
 // `size` bytes of the medium from `at` on.
 #[derive(Clone, Copy, Debug, PartialEq, Eq)]
 pub struct Place {
@@ -57,7 +50,7 @@ pub struct Place {
 #[derive(Clone, Copy)]
 pub struct Did {
     pub state: State,
-    pub said: Result<Said, Refused>,
+    pub said: Result<Said, Refusal>,
     pub place: Option<Place>,
 }
 
@@ -85,78 +78,70 @@ fn cell(slots: u32, c: u32) -> Place
     }
 }
 
-fn accepted(state: State, said: Said, place: Option<Place>) -> Did
-    ensures { result ≡ record { state = state; said = Ok said; place = place } }
+// A call that answers a value, and where its store stands.
+fn plain(out: Outcome<u64>, place: Option<Place>) -> Did
+    ensures { Says done out place result }
 {
     Did {
-        state,
-        said: Ok(said),
+        state: out.state,
+        said: out.answer.map(Said::Plain),
         place,
     }
 }
 
-fn refusal(state: State, number: u32, fault: Fault) -> Did
-    ensures { result ≡ did_of (refused number) fault state None }
-{
-    Did {
-        state,
-        said: Err(Refused { number, fault }),
-        place: None,
-    }
-}
-
-// A call that stores nothing, or a commit.
-fn plain(out: Outcome) -> Did
-    ensures { result ≡ did_of (answered out.answer) out.fault out.state None }
-{
-    match out.answer {
-        Answer::Done(value) => accepted(out.state, Said::Plain(value), None),
-        Answer::Refused(number) => refusal(out.state, number, out.fault),
-    }
-}
-
 // Force: the row of the entry that it answers.
-fn forced(out: Outcome, slots: u32) -> Did
-    requires { 0 < value_of (answered out.answer) → 0 < slots }
-    ensures { result ≡ did_of (answered out.answer) out.fault out.state (force_place slots (answered out.answer)) }
+fn forced(out: Outcome<u64>, slots: u32) -> Did
+    requires { 0 < value_of (answer_of done out.answer) → 0 < slots }
+    ensures { Says done out (force_place slots (answer_of done out.answer)) result }
 {
-    match out.answer {
-        Answer::Done(0) => accepted(out.state, Said::Plain(0), None),
-        Answer::Done(n) => accepted(out.state, Said::Plain(n), Some(row(slots, n))),
-        Answer::Refused(number) => refusal(out.state, number, out.fault),
-    }
+    let place = match out.answer {
+        Ok(0) | Err(_) => None,
+        Ok(n) => Some(row(slots, n)),
+    };
+    plain(out, place)
 }
 
 // Cut: the head.
-fn headed(out: Outcome) -> Did
-    ensures { result ≡ did_of (answered out.answer) out.fault out.state (cut_place (answered out.answer)) }
+fn headed(out: Outcome<u64>) -> Did
+    ensures { Says done out (cut_place (answer_of done out.answer)) result }
 {
-    match out.answer {
-        Answer::Done(value) => accepted(out.state, Said::Plain(value), Some(HEAD)),
-        Answer::Refused(number) => refusal(out.state, number, out.fault),
-    }
+    let place = match out.answer {
+        Ok(_) => Some(HEAD),
+        Err(_) => None,
+    };
+    plain(out, place)
 }
 
 // Write-back: the cell.
-fn backed(out: WrittenBack, slots: u32, c: u32) -> Did
-    ensures { result ≡ did_of (written_back out.answer) Fault.None out.state (back_place slots c (written_back out.answer)) }
+fn backed(out: Outcome<Back>, slots: u32, c: u32) -> Did
+    ensures { Says written_back out (back_place slots c (answer_of written_back out.answer)) result }
 {
-    match out.answer {
-        Back::Stored => accepted(out.state, Said::Stored, Some(cell(slots, c))),
-        Back::Clean => accepted(out.state, Said::Clean, None),
-        Back::Refused(number) => refusal(out.state, number, Fault::None),
+    let (said, place) = match out.answer {
+        Ok(Back::Stored) => (Ok(Said::Stored), Some(cell(slots, c))),
+        Ok(Back::Clean) => (Ok(Said::Clean), None),
+        Err(refused) => (Err(refused), None),
+    };
+    Did {
+        state: out.state,
+        said,
+        place,
     }
 }
 
 // Recovery step: the cell or the head.
-fn walked(out: Stepped, slots: u32) -> Did
-    ensures { result ≡ did_of (stepped out.answer) Fault.None out.state (step_place slots (stepped out.answer)) }
+fn walked(out: Outcome<Step>, slots: u32) -> Did
+    ensures { Says stepped out (step_place slots (answer_of stepped out.answer)) result }
 {
-    match out.answer {
-        Step::Cell(c) => accepted(out.state, Said::Cell(c), Some(cell(slots, c))),
-        Step::Head => accepted(out.state, Said::Head, Some(HEAD)),
-        Step::Clean => accepted(out.state, Said::Clean, None),
-        Step::Refused(number) => refusal(out.state, number, Fault::None),
+    let (said, place) = match out.answer {
+        Ok(Step::Cell(c)) => (Ok(Said::Cell(c)), Some(cell(slots, c))),
+        Ok(Step::Head) => (Ok(Said::Head), Some(HEAD)),
+        Ok(Step::Clean) => (Ok(Said::Clean), None),
+        Err(why) => (Err(why), None),
+    };
+    Did {
+        state: out.state,
+        said,
+        place,
     }
 }
 
@@ -176,13 +161,14 @@ pub fn make(
 {
     let slots = state.numbers.slots;
     match call {
-        Call::Begin => plain(state.begin(current, first, last, waiting)),
-        Call::Write { cell, value } => plain(state.write(
-            cell, value, current, first, last, waiting,
-        )),
-        Call::Abort => plain(state.abort(current, first, last, waiting)),
-        Call::Commit => plain(state.commit(medium, waiting)),
-        Call::Read { cell } => plain(state.read(cell, current)),
+        Call::Begin => plain(state.begin(current, first, last, waiting), None),
+        Call::Write { cell, value } => plain(
+            state.write(cell, value, current, first, last, waiting),
+            None,
+        ),
+        Call::Abort => plain(state.abort(current, first, last, waiting), None),
+        Call::Commit => plain(state.commit(medium, waiting), None),
+        Call::Read { cell } => plain(state.read(cell, current), None),
         Call::Force => forced(state.force(medium, waiting), slots),
         Call::Cut { entry } => headed(state.cut(entry, medium, first)),
         Call::WriteBack { cell } => backed(
@@ -191,6 +177,9 @@ pub fn make(
             cell,
         ),
         Call::Step => walked(state.recovery_step(medium, current), slots),
-        Call::Start => plain(State::recovery_start(medium, current, first, last, waiting)),
+        Call::Start => plain(
+            State::recovery_start(medium, current, first, last, waiting),
+            None,
+        ),
     }
 }

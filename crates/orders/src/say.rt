@@ -1,7 +1,7 @@
 // What the terminal writes. The last line of each reply begins with answer=, refused= or error=; a line for people begins with #. A
 // person at a keyboard gets a prompt and hints besides; a script gets neither. What writes a reply answers whether its last part was taken.
 use crate::{Kind, Wrong};
-use row::Fault;
+use answer::Refusal;
 use std::io::IsTerminal;
 use std::rt::HostRuntime;
 
@@ -59,31 +59,33 @@ pub fn sizes() -> bool {
     say(b"# sizes out of rule: CELLS is 1 to 1024, ROWS is 4 to 1024\nrefused=1\n")
 }
 
-// What a refusal by its number says, where it isn't a row that is wrong.
-fn meaning(n: u32) -> bool {
-    match n {
-        0..=2 | 4 => say(b"# no such cell\n"),
-        3 => say(b"# no transaction is open: begin first\n"),
-        5 => say(b"# the journal is full: force, back and cut make room\n"),
-        6 => say(b"# the entry numbers are used up\n"),
-        7 | 8 => say(b"# the cell's last entry is not stored yet: force first\n"),
-        9 => say(
+// What a refusal says: of 2 and 7 what is wrong with the row.
+fn meaning(why: Refusal) -> bool {
+    match why {
+        Refusal::Malformed(fault) | Refusal::BadRow(fault) => {
+            say(b"# ");
+            faults::print(fault.entry, fault.reason);
+            say(b"\n")
+        }
+        Refusal::Unfit | Refusal::NoCell => say(b"# no such cell\n"),
+        Refusal::NoTransaction => say(b"# no transaction is open: begin first\n"),
+        Refusal::Full => say(b"# the journal is full: force, back and cut make room\n"),
+        Refusal::UsedUp => say(b"# the entry numbers are used up\n"),
+        Refusal::NotStored => say(b"# the cell's last entry is not stored yet: force first\n"),
+        Refusal::NotACut => say(
             b"# not a place to cut at: an update, out of range, or a cell that is not written back\n",
         ),
-        10 => say(b"# recovery is not at its end, or not begun: start, then step\n"),
-        _ => say(b"# no such entry in the journal\n"),
+        Refusal::WrongPhase => say(
+            b"# recovery is not at its end, or not begun: start, then step\n",
+        ),
+        Refusal::NoEntry | Refusal::NoPart => say(b"# no such entry in the journal\n"),
     }
 }
 
-// A refusal other than 1, in words and by its number; the words of 2 and 7 are what is wrong with the row.
-pub fn refused(n: u32, fault: Fault) -> bool {
-    let Fault::At { reason, entry } = fault else {
-        meaning(n);
-        return pair(b"refused=", u64::from(n));
-    };
-    say(b"# ");
-    faults::print(entry, reason);
-    pair(b"\nrefused=", u64::from(n))
+// A refusal other than 1, in words and by its number.
+pub fn refused(why: Refusal) -> bool {
+    meaning(why);
+    pair(b"refused=", u64::from(why.number()))
 }
 
 // A cell's value, in the listing's form.

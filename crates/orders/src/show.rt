@@ -1,8 +1,8 @@
 // Showing what stands on the medium.
 use crate::say;
 use crate::say::{Cause, STDOUT_FILENO};
+use answer::Refusal;
 use keeper::State;
-use row::Fault;
 
 // A number of the head, for sizes; 0 of a medium without one.
 pub fn head_number(medium: &[u8], at: usize) -> usize {
@@ -37,7 +37,7 @@ fn within(medium: &[u8], size: usize) -> &[u8] {
 fn cause_of(medium: &[u8]) -> Cause {
     if medium.is_empty() {
         Cause::Empty
-    } else if medium::head::table_view_number(medium) != 0 {
+    } else if medium::head::try_table_view(medium).is_err() {
         Cause::NoMedium
     } else {
         Cause::NoRecovery
@@ -49,23 +49,24 @@ pub fn cause(medium: &[u8], size: usize) -> Cause {
 }
 
 // A refusal of a call on this medium.
-pub fn refused(n: u32, fault: Fault, medium: &[u8]) -> bool {
-    if n == 1 {
-        return say::unfit(cause_of(medium));
+pub fn refused(why: Refusal, medium: &[u8]) -> bool {
+    match why {
+        Refusal::Unfit => say::unfit(cause_of(medium)),
+        _ => say::refused(why),
     }
-    say::refused(n, fault)
 }
 
 // The table as it stands on the medium, in the listing's form.
 pub fn list(medium: &[u8], size: usize) -> bool {
     let medium = within(medium, size);
-    if medium::head::table_view_number(medium) != 0 {
-        return say::unfit(cause_of(medium));
-    }
+    let table = match medium::head::try_table_view(medium) {
+        Ok(table) => table,
+        Err(why) => return refused(why, medium),
+    };
     say::pair(b"cells=", head_number(medium, 0) as u64);
     say::pair(b"slots=", head_number(medium, 4) as u64);
     say::pair(b"head=", head_number(medium, 8) as u64);
-    cells(medium::head::table_view(medium));
+    cells(table);
     say::say(b"answer=0\n")
 }
 
@@ -80,11 +81,11 @@ fn hex(part: &[u8]) {
 pub fn look(state: State, n: u32, medium: &[u8], waiting: &[u8], size: usize) -> bool {
     let waiting = within(waiting, row_bytes(medium));
     let medium = within(medium, size);
-    let no = state.look_number(n, medium, waiting);
-    if no != 0 {
-        return refused(no, Fault::None, medium);
-    }
+    let row = match state.try_look(n, medium, waiting) {
+        Ok(row) => row,
+        Err(why) => return refused(why, medium),
+    };
     say::say(b"entry=");
-    hex(state.look(n, medium, waiting));
+    hex(row);
     say::say(b"\nanswer=0\n")
 }

@@ -84,7 +84,7 @@ fn draw(state: State, book: &mut Book) -> Call {
     };
     let value = book.value();
     let entry = draw_entry(numbers, book);
-    if matches!(state.phase, Phase::Recovering) {
+    if state.phase.is_recovering() {
         return if drawn < 10 { Call::Start } else { Call::Step };
     }
     match likely {
@@ -116,7 +116,7 @@ fn note(call: Call, said: Said, phase: Phase, book: &mut Book) {
             book.judge(value == want);
         }
         (Call::Begin | Call::Abort, _) => book.aborted(),
-        (Call::Step | Call::Start, _) if matches!(phase, Phase::Idle) => book.forget(),
+        (Call::Step | Call::Start, _) if phase.is_idle() => book.forget(),
         _ => {}
     }
 }
@@ -199,8 +199,8 @@ fn prepare(cells: u32, slots: u32, book: &mut Book) -> Image {
     let mut image = Image::blank(cells, slots);
     let size = image.size();
     let medium = &mut image.bytes[..size];
-    let no = medium::head::format(medium, cells, slots);
-    book.judge(no == 0);
+    let formatted = medium::head::format(medium, cells, slots);
+    book.judge(formatted.is_ok());
     let short = book.below(160);
     let h = if short < 40 { u32::MAX - short } else { 0 };
     medium::head::store_head(medium, cells, slots, h);

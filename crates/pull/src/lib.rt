@@ -1,16 +1,17 @@
 // Pulling the plug: the medium alone survives, recovery runs on a copy of it with rubbish for workspaces, and the table is compared.
 #![tactic(auto)]
 
+use answer::Refusal;
 use book::Book;
 use book::image::{Image, MOST_CELLS, MOST_ROWS};
-use keeper::{Answer, Outcome, State};
+use keeper::{Outcome, State};
 use recovery::Step;
 
 // What rubbish workspaces hold, byte for byte, where nothing is drawn.
 pub const RUBBISH: u64 = 0xB5B5B5B5B5B5B5B5;
 
 // Recovery start on rubbish, of which only the current values are kept.
-pub fn restart(image: &Image, current: &mut [u64], rubbish: u32) -> Outcome {
+pub fn restart(image: &Image, current: &mut [u64], rubbish: u32) -> Outcome<u64> {
     let n = image.cell_count();
     let w = 32 * image.row_count();
     let mut first = [rubbish; MOST_CELLS];
@@ -36,18 +37,23 @@ fn judge_cell(before: &Image, image: &Image, cell: u32, book: &mut Book) {
 }
 
 // What a step answered, against what it did to the medium; whether recovery goes on.
-fn judge_step(answer: Step, before: &Image, image: &Image, book: &mut Book) -> bool {
+fn judge_step(
+    answer: Result<Step, Refusal>,
+    before: &Image,
+    image: &Image,
+    book: &mut Book,
+) -> bool {
     let stores = image.stores_since(before);
     match answer {
-        Step::Cell(cell) => {
+        Ok(Step::Cell(cell)) => {
             book.judge(stores == 1);
             judge_cell(before, image, cell, book);
         }
-        Step::Head => book.judge(stores == 1),
-        Step::Clean => book.judge(stores == 0),
-        Step::Refused(_) => book.judge(false),
+        Ok(Step::Head) => book.judge(stores == 1),
+        Ok(Step::Clean) => book.judge(stores == 0),
+        Err(_) => book.judge(false),
     }
-    matches!(answer, Step::Cell(_))
+    matches!(answer, Ok(Step::Cell(_)))
 }
 
 // One step of recovery, judged: the state after it, if recovery goes on.
@@ -78,10 +84,10 @@ fn recover(image: &mut Image, most: u32, book: &mut Book) -> u32 {
     let mut cells = [RUBBISH; MOST_CELLS];
     let current = &mut cells[..n];
     let started = restart(image, current, rubbish);
-    let Answer::Done(_) = started.answer else {
+    if started.answer.is_err() {
         book.differences.count();
         return 0;
-    };
+    }
     steps(started.state, image, current, most, book)
 }
 

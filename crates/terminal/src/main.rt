@@ -38,7 +38,7 @@ fn finish(
 ) -> bool {
     let said = match did.said {
         Ok(said) => said,
-        Err(refused) => return show::refused(refused.number, refused.fault, medium),
+        Err(why) => return show::refused(why, medium),
     };
     match bring(session, before, call, did, medium) {
         Ok(()) => reply::answer(rt, call, said),

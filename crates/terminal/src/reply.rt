@@ -45,7 +45,7 @@ pub fn lost() -> bool {
 // Why not every entry was stored.
 pub fn unstored(why: Unstored, medium: &[u8]) -> bool {
     match why {
-        Unstored::Refused(refused) => show::refused(refused.number, refused.fault, medium),
+        Unstored::Refused(why) => show::refused(why, medium),
         Unstored::File(_) => lost(),
     }
 }

@@ -1,25 +1,29 @@
 // A worn card: a stored row is lost from the medium that a power loss leaves, and recovery start must refuse it, or must have read all the rest.
 #![tactic(auto)]
 
+use answer::Refusal;
 use book::Book;
 use book::image::{Image, MOST_CELLS};
-use keeper::{Answer, Outcome};
+use keeper::Outcome;
 use pull::RUBBISH;
 use row::{Fault, Reason};
 
 // Whether recovery start was refused with 2 and the hole at n.
-fn names_hole(out: Outcome, n: u32) -> bool {
-    matches!(out.answer, Answer::Refused(2))
-        && matches!(out.fault, Fault::At { reason: Reason::Hole, entry } if entry == n)
+fn names_hole(out: Outcome<u64>, n: u32) -> bool {
+    let hole = Fault {
+        reason: Reason::Hole,
+        entry: n,
+    };
+    out.answer == Err(Refusal::Malformed(hole))
 }
 
 // Whether recovery start was accepted, and read the entries up to n.
-fn ends_with(out: Outcome, n: u32) -> bool {
-    matches!(out.answer, Answer::Done(_)) && out.state.numbers.l == n
+fn ends_with(out: Outcome<u64>, n: u32) -> bool {
+    out.answer.is_ok() && out.state.numbers.l == n
 }
 
 // The row after entry n's was lost, of the entries up to e: a hole, or, where it was the last, the journal's end.
-fn judge(out: Outcome, n: u32, e: u32, book: &mut Book) {
+fn judge(out: Outcome<u64>, n: u32, e: u32, book: &mut Book) {
     let lost = n.wrapping_add(1);
     if lost == e {
         book.ends.count();
