@@ -4,9 +4,8 @@
 
 pub mod image;
 
-ghost use Rattle.std.specs.Prelude.{◌≡◌, ◌+◌, ◌*◌, ◌/◌, ◌%◌, ◌<◌, ◌≤◌, ◌↔◌, IsTrue, Some, None, min};
-
-use std::fmt;
+ghost use Rattle.std.specs.Prelude.{◌≡◌, ◌≢◌, ◌+◌, ◌*◌, ◌/◌, ◌%◌, ◌<◌, ◌≤◌, ◌↔◌, IsTrue, IsFalse, Some, None, min, [], ◌∷◌, ◌++◌, All, Any, replicate, slice_index};
+ghost use Rattle.arrayvec.specs.ArrayVec.{array_vec_len};
 
 use arrayvec::ArrayVec;
 use image::MOST_CELLS;
@@ -15,7 +14,7 @@ use image::MOST_CELLS;
 pub const MOST: u64 = 1_000_000_000;
 
 // How many writes of one life are listed.
-const MOST_WRITES: usize = 128;
+pub const MOST_WRITES: usize = 128;
 
 // How often something was tried, or differed.
 #[derive(Clone, Copy, Debug, Default, PartialEq, Eq)]
@@ -34,15 +33,9 @@ impl Tally {
     }
 }
 
-impl fmt::Display for Tally {
-    fn fmt<W: fmt::Write>(&self, f: &mut fmt::Formatter<W>) -> fmt::Result {
-        write!(f, "{}", self.number)
-    }
-}
-
 // What came of a write: its transaction is open, or its commit answered this number; gone is what was aborted, or is stored and in the table.
 #[derive(Clone, Copy, Debug, Default, PartialEq, Eq)]
-enum Fate {
+pub enum Fate {
     Open,
     Committed(u64),
     #[default]
@@ -50,10 +43,10 @@ enum Fate {
 }
 
 #[derive(Clone, Copy, Debug, Default, PartialEq, Eq)]
-struct Write {
-    cell: u32,
-    value: u64,
-    fate: Fate,
+pub struct Write {
+    pub cell: u32,
+    pub value: u64,
+    pub fate: Fate,
 }
 
 // A call where a keeper that goes wrong would show it.
@@ -84,8 +77,9 @@ pub struct Book {
     // The call that is likely next, and the cell of the last write.
     pub likely: Option<Likely>,
     pub written: Option<u32>,
-    table: [u64; MOST_CELLS],
-    writes: ArrayVec<Write, MOST_WRITES>,
+    // The table as the stored transactions left it, and the writes of this life.
+    pub table: [u64; MOST_CELLS],
+    pub writes: ArrayVec<Write, MOST_WRITES>,
 }
 
 impl Book {
@@ -93,6 +87,7 @@ impl Book {
     pub fn new(seed: u32) -> Self
         ensures seed { result.seed ≡ seed }
         ensures differences { result.differences.number ≡ 0 }
+        ensures writes { result.writes.items ≡ [] }
     {
         Book {
             seed,
@@ -115,7 +110,10 @@ impl Book {
     }
 
     // A difference, where a check failed.
-    pub fn judge(&mut self, ok: bool) {
+    pub fn judge(&mut self, ok: bool)
+        ensures held { IsTrue ok → self.new ≡ self.old }
+        ensures failed { IsFalse ok → self.old.differences.number < MOST → self.new.differences.number ≡ self.old.differences.number + 1 }
+    {
         if !ok {
             self.differences.count();
         }
@@ -134,19 +132,27 @@ impl Book {
 
     // A drawn number below n; 0 below 0.
     pub fn below(&mut self, n: u32) -> u32
-        ensures { 0 < n → result < n }
+        ensures drawn { 0 < n → result ≡ self.new.seed / 65536 % n }
+        ensures below { 0 < n → result < n }
+        ensures none { n ≡ 0 → result ≡ 0 }
     {
         let drawn = self.draw();
         drawn.checked_rem(n).unwrap_or(0)
     }
 
     // Heads or tails.
-    pub fn flip(&mut self) -> bool {
+    pub fn flip(&mut self) -> bool
+        ensures { IsTrue result ↔ (self.new.seed / 65536 % 2 ≡ 0) }
+    {
         self.below(2) == 0
     }
 
     // A cell's value: one of few parts, so that values come again, and any release.
-    pub fn value(&mut self) -> u64 {
+    pub fn value(&mut self) -> u64
+        ensures part { result % 4294967296 < 5 }
+        ensures major { result / 4294967296 % 65536 < 3 }
+        ensures minor { result / 281474976710656 < 12 }
+    {
         let part = self.below(5);
         let major = self.below(3);
         let minor = self.below(12);
@@ -154,12 +160,17 @@ impl Book {
     }
 
     // A cell of the table of stored transactions; 0 of a cell that no medium has.
-    pub fn stored(&self, cell: u32) -> u64 {
+    pub fn stored(&self, cell: u32) -> u64
+        ensures { result ≡ slice_index self.now.table cell }
+    {
         self.table.get(cell as usize).copied().unwrap_or(0)
     }
 
     // A write of the open transaction, accepted.
-    pub fn wrote(&mut self, cell: u32, value: u64) {
+    pub fn wrote(&mut self, cell: u32, value: u64)
+        ensures written { self.new.written ≡ Some cell }
+        ensures listed { array_vec_len self.old.writes < MOST_WRITES → self.new.writes.items ≡ self.old.writes.items ++ record { cell = cell; value = value; fate = Fate.Open } ∷ [] }
+    {
         self.written = Some(cell);
         if !self.writes.is_full() {
             self.writes.push(Write {
@@ -170,7 +181,10 @@ impl Book {
         }
     }
 
-    fn end_open(&mut self, fate: Fate) {
+    fn end_open(&mut self, fate: Fate)
+        requires { fate ≢ Fate.Open }
+        ensures { All (λ w. w.fate ≢ Fate.Open) self.new.writes.items }
+    {
         for write in self.writes.iter_mut() {
             if write.fate == Fate::Open {
                 write.fate = fate;
@@ -179,17 +193,23 @@ impl Book {
     }
 
     // The open transaction's commit answered n.
-    pub fn committed(&mut self, n: u64) {
+    pub fn committed(&mut self, n: u64)
+        ensures { All (λ w. w.fate ≢ Fate.Open) self.new.writes.items }
+    {
         self.end_open(Fate::Committed(n));
     }
 
     // The open transaction was aborted.
-    pub fn aborted(&mut self) {
+    pub fn aborted(&mut self)
+        ensures { All (λ w. w.fate ≢ Fate.Open) self.new.writes.items }
+    {
         self.end_open(Fate::Gone);
     }
 
     // Entry n's row is stored: a transaction whose commit had answered n now counts, and the table has its writes.
-    pub fn forced(&mut self, n: u64) {
+    pub fn forced(&mut self, n: u64)
+        ensures { All (λ w. w.fate ≢ Fate.Committed n) self.new.writes.items }
+    {
         for write in self.writes.iter_mut() {
             if write.fate == Fate::Committed(n) {
                 if let Some(value) = self.table.get_mut(write.cell as usize) {
@@ -201,7 +221,10 @@ impl Book {
     }
 
     // What a read of the cell is to answer: the last write of it that is not gone, else the table's value.
-    pub fn current(&self, cell: u32) -> u64 {
+    pub fn current(&self, cell: u32) -> u64
+        ensures unnamed { All (λ w. w.cell ≢ cell) self.now.writes.items → result ≡ slice_index self.now.table cell }
+        ensures gone { All (λ w. w.fate ≡ Fate.Gone) self.now.writes.items → result ≡ slice_index self.now.table cell }
+    {
         let last = self
             .writes
             .iter()
@@ -211,17 +234,24 @@ impl Book {
     }
 
     // Whether a write of this life named the cell.
-    pub fn named(&self, cell: u32) -> bool {
+    pub fn named(&self, cell: u32) -> bool
+        ensures { IsTrue result ↔ Any (λ w. w.cell ≡ cell) self.now.writes.items }
+    {
         self.writes.iter().any(|write| write.cell == cell)
     }
 
     // Power was lost and recovery has ended: what was not stored is forgotten.
-    pub fn forget(&mut self) {
+    pub fn forget(&mut self)
+        ensures writes { self.new.writes.items ≡ [] }
+        ensures table { self.new.table ≡ self.old.table }
+    {
         self.writes.clear();
     }
 
     // A new medium: an empty table and no writes.
     pub fn fresh(&mut self)
+        ensures writes { self.new.writes.items ≡ [] }
+        ensures table { self.new.table ≡ replicate 32 0 }
         ensures likely { self.new.likely ≡ None }
         ensures written { self.new.written ≡ None }
     {

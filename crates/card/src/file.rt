@@ -1,278 +1,159 @@
 // The medium's file: the medium, byte for byte. A store is brought to its own place and synced before the call is answered.
+ghost use Rattle.std.specs.Prelude.{◌≡◌};
+ghost use Rattle.keeper.specs.Answers.{handed};
+ghost use Rattle.console.specs.Made.{call_of, Made};
+
+use crate::desk::Desk;
+use console::{Call, Did, Place};
 use keeper::State;
 use orders::say::Cause;
-use orders::{say, show};
+use orders::show;
 use state::{Numbers, Phase};
 use std::fs::{File, OpenOptions};
-use std::io::{Seek, SeekFrom};
+use std::io::{ErrorKind, Seek, SeekFrom};
 use std::os::fd::AsRawFd;
 use std::os::unix::fs::FileExt;
 use std::rt::HostRuntime;
-use words::Span;
 
-// The keeper's state, the file where one is open, and the medium's length.
+// The state of all zeros, with which every call but start is refused.
+const ZEROS: State = State {
+    numbers: Numbers {
+        cells: 0,
+        slots: 0,
+        h: 0,
+        f: 0,
+        l: 0,
+        o: 0,
+    },
+    phase: Phase::Idle,
+};
+
+// The keeper's state, the medium's file, and its length.
 #[derive(Drop)]
 pub struct Session {
     pub state: State,
-    pub file: Option<File>,
+    pub file: File,
     pub size: usize,
 }
 
-// What an order left, and whether the terminal goes on.
+// Why a file stays as it is: sizes out of range; a length that is not what it was when it was opened; neither empty nor a medium; a medium
+// that the order does not say may be erased. Or the file did not take what was stored.
 #[derive(Drop)]
-pub struct Told {
-    pub session: Session,
-    pub on: bool,
-}
-
-// The state of all zeros, with which every call but start is refused.
-fn zeros() -> State {
-    State {
-        numbers: Numbers {
-            cells: 0,
-            slots: 0,
-            h: 0,
-            f: 0,
-            l: 0,
-            o: 0,
-        },
-        phase: Phase::Idle,
-    }
-}
-
-// A session at a file, before recovery.
-pub fn session_at(file: Option<File>, size: usize) -> Session {
-    Session {
-        state: zeros(),
-        file,
-        size,
-    }
-}
-
-// Bytes stored at their place in the file by one write, and synced.
-fn store(file: &Option<File>, part: &[u8], at: usize) -> bool {
-    if 40992 < at {
-        return false;
-    }
-    let Some(file) = file else {
-        return false;
-    };
-    let Ok(put) = file.write_at(part, at as u64) else {
-        return false;
-    };
-    if put != part.len() {
-        return false;
-    }
-    file.sync_all().is_ok()
-}
-
-// What a call stored, brought to the file: `size` bytes of the medium from `at` on.
-pub fn bring(file: &Option<File>, medium: &[u8], at: usize, size: usize) -> bool {
-    if size == 0 {
-        return true;
-    }
-    if 40992 < at {
-        return false;
-    }
-    if 40992 < size {
-        return false;
-    }
-    let end = at + size;
-    if medium.len() < end {
-        return false;
-    }
-    store(file, &medium[at..end], at)
-}
-
-// The file did not take a store: the terminal stops, before it answers.
-pub fn failed(session: Session) -> Told {
-    say::say(
-        b"# the file did not take the store: power is as good as lost, start again on it\nerror=store\n",
-    );
-    Told { session, on: false }
-}
-
-// Whether a file could be made, empty, where none of this name is.
-fn made_new(rt: HostRuntime, path: &str) -> bool {
-    OpenOptions::new()
-        .write(true)
-        .create_new(true)
-        .open(&rt, path)
-        .is_ok()
-}
-
-// The file that the line names, to read and write, or none; it is there already, or it is new. A name that is no text is that of no file.
-fn named(rt: HostRuntime, line: &[u8], name: Span, new: bool) -> Option<File> {
-    let from = name.from;
-    let to = name.to;
-    if to < from {
-        return None;
-    }
-    if line.len() < to {
-        return None;
-    }
-    let Ok(path) = std::str::from_utf8(&line[from..to]) else {
-        return None;
-    };
-    if new {
-        if made_new(rt, path) {} else {
-            return None;
-        }
-    }
-    OpenOptions::new()
-        .read(true)
-        .write(true)
-        .open(&rt, path)
-        .ok()
-}
-
-// What is said where a file can't be opened.
-pub fn say_unopened() -> bool {
-    say::say(b"# no such file, or it can't be read and written; new FILE makes one\nerror=file\n")
-}
-
-// Opens the file that the line names and reads it; nothing is stored. The session before it is kept where that fails, and nothing is said.
-pub fn open(rt: HostRuntime, session: Session, line: &[u8], name: Span, medium: &mut [u8]) -> Told {
-    let Some(file) = named(rt, line, name, false) else {
-        return Told { session, on: false };
-    };
-    drop(session);
-    let size = io::read_full(file.as_raw_fd(), medium);
-    say::pair(b"bytes=", size as u64);
-    let opened = session_at(Some(file), size);
-    Told {
-        session: opened,
-        on: true,
-    }
-}
-
-// Makes the file that the line names, empty. A name that is taken is refused, and the session before it is kept.
-pub fn make(rt: HostRuntime, session: Session, line: &[u8], name: Span) -> Told {
-    let Some(file) = named(rt, line, name, true) else {
-        let heard = say::say(
-            b"# the name is taken, or no file can be made there; open FILE opens one\nerror=file\n",
-        );
-        return Told { session, on: heard };
-    };
-    drop(session);
-    let heard = say::say(b"# the file was made, empty: format CELLS ROWS is next\nanswer=0\n");
-    let made = session_at(Some(file), 0);
-    Told {
-        session: made,
-        on: heard,
-    }
-}
-
-// Whether the file's end is at this place.
-fn ends_at(file: &Option<File>, size: usize) -> bool {
-    let Some(file) = file else {
-        return false;
-    };
-    let mut file = file;
-    let Ok(end) = file.seek(SeekFrom::End(0)) else {
-        return false;
-    };
-    end == size as u64
-}
-
-// Whether a format may touch the file; where not, why it stays as it is.
-#[derive(Clone, Copy)]
-enum Touch {
-    Free,
-    TooLong,
+pub enum Unformatted {
+    Sizes,
     OtherLength,
     NoMedium,
     Medium,
+    File(std::io::Error),
 }
 
-// Whether the file still has the length that was read.
-fn same_length(file: &Option<File>, size: usize) -> Touch {
-    if 40992 < size {
-        return Touch::TooLong;
-    }
-    if ends_at(file, size) {
-        return Touch::Free;
-    }
-    Touch::OtherLength
-}
-
-// An empty file may be touched; a medium, where the order says so in words. Anything else stays as it is.
-fn may_touch(session: &Session, erase: bool, medium: &[u8]) -> Touch {
-    match show::cause(medium, session.size) {
-        Cause::NoMedium => Touch::NoMedium,
-        Cause::NoRecovery if !erase => Touch::Medium,
-        Cause::Empty | Cause::NoRecovery => same_length(&session.file, session.size),
+impl From<std::io::Error> for Unformatted {
+    fn from(error: std::io::Error) -> Unformatted {
+        Unformatted::File(error)
     }
 }
 
-fn say_kept(why: Touch) -> bool {
-    match why {
-        Touch::Free | Touch::TooLong => true,
-        Touch::OtherLength => say::say(
-            b"# the file's length is not what it was when it was opened: open it again\nerror=file\n",
-        ),
-        Touch::NoMedium => say::say(
-            b"# the file is neither empty nor a medium, so it stays as it is: choose another name, or remove it first\nerror=file\n",
-        ),
-        Touch::Medium => say::say(
-            b"# the file is a medium, so it stays as it is: format CELLS ROWS erase erases its table and its journal\nerror=erase\n",
-        ),
-    }
+// A file to read and write.
+fn opened(rt: HostRuntime, path: &str) -> std::io::Result<File> {
+    OpenOptions::new().read(true).write(true).open(&rt, path)
 }
 
-// The file cut or stretched to a length.
-fn cut_to(file: &Option<File>, size: usize) -> bool {
-    let Some(file) = file else {
-        return false;
-    };
-    file.set_len(size as u64).is_ok()
-}
+impl Session {
+    // Opens the file and reads it, before recovery; nothing is stored.
+    pub fn open(rt: HostRuntime, path: &str, medium: &mut [u8]) -> std::io::Result<Session> {
+        let file = opened(rt, path)?;
+        let size = io::read_full(file.as_raw_fd(), medium);
+        Ok(Session {
+            state: ZEROS,
+            file,
+            size,
+        })
+    }
 
-// Format on a medium of the right length, and the file cut or stretched to it.
-fn format_on(rt: HostRuntime, session: Session, cells: u32, slots: u32, medium: &mut [u8]) -> Told {
-    let size = medium.len();
-    let no = medium::head::format(medium, cells, slots);
-    if no != 0 {
-        let heard = say::sizes();
-        return Told { session, on: heard };
+    // Makes the file, empty; a name that is taken is refused.
+    pub fn create(rt: HostRuntime, path: &str) -> std::io::Result<Session> {
+        OpenOptions::new()
+            .write(true)
+            .create_new(true)
+            .open(&rt, path)?;
+        Ok(Session {
+            state: ZEROS,
+            file: opened(rt, path)?,
+            size: 0,
+        })
     }
-    if 40992 < size {
-        return failed(session);
-    }
-    if cut_to(&session.file, size) {} else {
-        return failed(session);
-    }
-    if bring(&session.file, medium, 0, size) {} else {
-        return failed(session);
-    }
-    say::hint(rt, b"# an empty table: start, then recover, then begin\n");
-    let heard = say::say(b"answer=0\n");
-    let formatted = session_at(session.file, size);
-    Told {
-        session: formatted,
-        on: heard,
-    }
-}
 
-// Format: the only order that stores more than one head, row or cell.
-pub fn format(
-    rt: HostRuntime,
-    session: Session,
-    cells: u32,
-    slots: u32,
-    erase: bool,
-    medium: &mut [u8],
-) -> Told {
-    let ranged = medium::layout::in_range(cells, slots);
-    if ranged {} else {
-        let heard = say::sizes();
-        return Told { session, on: heard };
+    // A call, made on what is lent; what it stored is not in the file yet.
+    pub fn make(&mut self, call: Call, desk: &mut Desk<'_>) -> Did
+        ensures state { self.new.state ≡ result.state }
+        ensures made { let before = handed self.old.state desk.old.medium.now desk.old.current.now desk.old.first.now desk.old.last.now desk.old.waiting.now in
+            let after = handed result.state desk.new.medium.now desk.new.current.now desk.new.first.now desk.new.last.now desk.new.waiting.now in
+            Made (call_of call) before result after }
+    {
+        let did = desk.make(self.state, call);
+        self.state = did.state;
+        did
     }
-    let may = may_touch(&session, erase, medium);
-    let Touch::Free = may else {
-        let heard = say_kept(may);
-        return Told { session, on: heard };
-    };
-    let m = medium::layout::medium_length(cells, slots).min(medium.len());
-    format_on(rt, session, cells, slots, &mut medium[0..m])
+
+    // Bytes stored at their place in the file by one write, and synced.
+    fn store(&self, part: &[u8], at: usize) -> std::io::Result<()> {
+        let put = self.file.write_at(part, at as u64)?;
+        if put < part.len() {
+            return Err(ErrorKind::WriteZero.into());
+        }
+        self.file.sync_all()
+    }
+
+    // What a call stored, brought to the file.
+    pub fn bring(&self, medium: &[u8], place: Option<Place>) -> std::io::Result<()> {
+        let Some(place) = place else {
+            return Ok(());
+        };
+        match medium.get(place.at..) {
+            Some(rest) => match rest.get(..place.size) {
+                Some(part) => self.store(part, place.at),
+                None => Err(ErrorKind::InvalidInput.into()),
+            },
+            None => Err(ErrorKind::InvalidInput.into()),
+        }
+    }
+
+    // An empty file may be touched; a medium, where the order says so in words. Anything else stays as it is.
+    fn may_touch(&mut self, erase: bool, medium: &[u8]) -> Result<(), Unformatted> {
+        match show::cause(medium, self.size) {
+            Cause::NoMedium => return Err(Unformatted::NoMedium),
+            Cause::NoRecovery if !erase => return Err(Unformatted::Medium),
+            Cause::Empty | Cause::NoRecovery => {}
+        }
+        match self.file.seek(SeekFrom::End(0)) {
+            Ok(end) if end == self.size as u64 => Ok(()),
+            _ => Err(Unformatted::OtherLength),
+        }
+    }
+
+    // Format: the only order that stores more than one head, row or cell. The file is cut or stretched to the medium's length.
+    pub fn format(
+        &mut self,
+        cells: u32,
+        slots: u32,
+        erase: bool,
+        medium: &mut [u8],
+    ) -> Result<(), Unformatted> {
+        if !medium::layout::in_range(cells, slots) {
+            return Err(Unformatted::Sizes);
+        }
+        self.may_touch(erase, medium)?;
+        let size = medium::layout::medium_length(cells, slots);
+        let Some(medium) = medium.get_mut(..size) else {
+            return Err(Unformatted::Sizes);
+        };
+        if medium::head::format(medium, cells, slots) != 0 {
+            return Err(Unformatted::Sizes);
+        }
+        self.file.set_len(size as u64)?;
+        self.store(medium, 0)?;
+        self.state = ZEROS;
+        self.size = size;
+        Ok(())
+    }
 }

@@ -1,167 +1,86 @@
 // Rows brought to the file: a commit's, one by one; and those of every entry that waits, of which those that follow one another in one
 // 512-byte sector are brought by one write and one sync, for a card that keeps a sector whole (docs/PLUG.md). The file has all of them before
 // the order is answered.
-use crate::file;
-use console::{Asked, Did};
-use keeper::State;
-use row::Fault;
-use std::fs::File;
+use crate::desk::Desk;
+use crate::file::Session;
+use console::{Call, Place, Refused, Said};
+use std::io::ErrorKind;
 
-// The state after the rows stored so far and the last of their numbers; those that are not in the file yet, in one sector, the bytes from
-// `from` to `to`; a refusal's number and its fault; whether an entry may be left, and whether the file took what was brought.
-#[derive(Clone, Copy)]
-pub struct Rows {
-    pub state: State,
-    pub number: u64,
-    pub from: usize,
-    pub to: usize,
-    pub refused: u32,
-    pub fault: Fault,
-    pub more: bool,
-    pub taken: bool,
+const SECTOR: usize = 512;
+
+// The most rows that a journal has.
+const MOST_ROWS: u32 = 1024;
+
+// Why not every entry that waits was stored: force was refused, or the file did not take a row.
+#[derive(Drop)]
+pub enum Unstored {
+    Refused(Refused),
+    File(std::io::Error),
 }
 
-// The row of the entry after n, brought and synced.
-fn bring_row(file: &Option<File>, medium: &[u8], slots: u32, n: u32) -> bool {
-    if slots == 0 {
-        return false;
+impl From<std::io::Error> for Unstored {
+    fn from(error: std::io::Error) -> Unstored {
+        Unstored::File(error)
     }
-    let at = journal::first_row(slots, n);
-    file::bring(file, medium, at, 32)
 }
 
-// A commit's rows, those of the entries after `from` up to `to`, in that order, each synced before the next.
-pub fn bring_rows(file: &Option<File>, medium: &[u8], slots: u32, from: u32, to: u32) -> bool {
-    let mut n = from;
-    while n < to {
-        if bring_row(file, medium, slots, n) {} else {
-            return false;
+// The part of the medium from the first of two places to the end of the last.
+fn joined(a: Place, b: Place) -> Place {
+    let at = a.at.min(b.at);
+    let end = a.at.saturating_add(a.size).max(b.at.saturating_add(b.size));
+    Place {
+        at,
+        size: end.saturating_sub(at),
+    }
+}
+
+impl Session {
+    // The row of the entry after n, brought and synced.
+    fn bring_row(&self, medium: &[u8], n: u32) -> std::io::Result<()> {
+        let slots = self.state.numbers.slots;
+        if slots == 0 {
+            return Err(ErrorKind::InvalidInput.into());
         }
-        n += 1;
+        let at = journal::first_row(slots, n);
+        self.bring(medium, Some(Place { at, size: 32 }))
     }
-    true
-}
 
-fn force() -> Asked {
-    Asked {
-        call: console::FORCE,
-        cell: 0,
-        value: 0,
-        entry: 0,
+    // A commit's rows, those of the entries after `from` up to `to`, in that order, each synced before the next.
+    pub fn bring_rows(&self, medium: &[u8], from: u32, to: u32) -> std::io::Result<()> {
+        for n in from..to {
+            self.bring_row(medium, n)?;
+        }
+        Ok(())
     }
-}
 
-// What is held is brought: nothing where nothing is.
-fn brought(file: &Option<File>, medium: &[u8], rows: Rows) -> bool {
-    let from = rows.from;
-    let to = rows.to;
-    if to <= from {
-        return true;
-    }
-    file::bring(file, medium, from, to - from)
-}
-
-// The rows with one more held: beside those of its sector.
-fn beside(rows: Rows, did: Did, at: usize, end: usize) -> Rows {
-    let state = did.state;
-    let from = rows.from;
-    let to = rows.to;
-    Rows {
-        state,
-        number: did.value,
-        from: if at < from { at } else { from },
-        to: if to < end { end } else { to },
-        refused: 0,
-        fault: Fault::None,
-        more: true,
-        taken: true,
-    }
-}
-
-// A row that was stored is held with those of its sector, once those of another are in the file.
-fn hold(file: &Option<File>, medium: &[u8], rows: Rows, did: Did) -> Rows {
-    let state = did.state;
-    let at = did.at;
-    let end = at.min(40992) + did.size.min(40992);
-    let from = rows.from;
-    if from < rows.to {
-        if from / 512 == at / 512 {
-            return beside(rows, did, at, end);
+    // The rows that are held, with one more beside those of its sector; those of another are brought first.
+    fn hold(&self, medium: &[u8], held: Option<Place>, row: Place) -> std::io::Result<Place> {
+        match held {
+            Some(rows) if rows.at / SECTOR == row.at / SECTOR => Ok(joined(rows, row)),
+            _ => {
+                self.bring(medium, held)?;
+                Ok(row)
+            }
         }
     }
-    let taken = brought(file, medium, rows);
-    Rows {
-        state,
-        number: did.value,
-        from: at,
-        to: end,
-        refused: 0,
-        fault: Fault::None,
-        more: taken,
-        taken,
-    }
-}
 
-// No entry is left, or force was refused: what is held is brought.
-fn ended(file: &Option<File>, medium: &[u8], rows: Rows, did: Did) -> Rows {
-    let state = did.state;
-    let fault = did.fault;
-    Rows {
-        state,
-        number: rows.number,
-        from: 0,
-        to: 0,
-        refused: did.refused,
-        fault,
-        more: false,
-        taken: brought(file, medium, rows),
-    }
-}
-
-fn one_more(
-    file: &Option<File>,
-    rows: Rows,
-    medium: &mut [u8],
-    current: &mut [u64],
-    first: &mut [u32],
-    last: &mut [u32],
-    waiting: &mut [u8],
-) -> Rows {
-    let state = rows.state;
-    let did = console::make(state, force(), medium, current, first, last, waiting);
-    if did.size == 0 {
-        return ended(file, medium, rows, did);
-    }
-    hold(file, medium, rows, did)
-}
-
-// Every entry that waits, at most as many as a journal has rows.
-pub fn store_rows(
-    file: &Option<File>,
-    state: State,
-    medium: &mut [u8],
-    current: &mut [u64],
-    first: &mut [u32],
-    last: &mut [u32],
-    waiting: &mut [u8],
-) -> Rows {
-    let mut rows = Rows {
-        state,
-        number: 0,
-        from: 0,
-        to: 0,
-        refused: 0,
-        fault: Fault::None,
-        more: true,
-        taken: true,
-    };
-    let mut turns: u32 = 1025;
-    while 0 < turns {
-        turns -= 1;
-        rows = one_more(file, rows, medium, current, first, last, waiting);
-        if rows.more {} else {
-            return rows;
+    // Every entry that waits is stored and in the file: the last one's number, or 0 where none waited.
+    pub fn store_rows(&mut self, desk: &mut Desk<'_>) -> Result<u64, Unstored> {
+        let mut number = 0;
+        let mut held = None;
+        for _ in 0..=MOST_ROWS {
+            let did = self.make(Call::Force, desk);
+            let Some(row) = did.place else {
+                self.bring(desk.medium, held)?;
+                did.said.map_err(Unstored::Refused)?;
+                return Ok(number);
+            };
+            if let Ok(Said::Plain(n)) = did.said {
+                number = n;
+            }
+            held = Some(self.hold(desk.medium, held, row)?);
         }
+        self.bring(desk.medium, held)?;
+        Ok(number)
     }
-    rows
 }

@@ -11,13 +11,13 @@ use borrow.Author.Tests.{ltb-true, ltb-false, eqb-true, eqb-false, lt-ltb, le-lt
 use lib.Dec.{ltb, eqb}
 use lib.ListN.{get_or}
 use Rattle.scope.specs.Bytes.{pick}
-use Rattle.counter.specs.declared.Order.{Order}
-use Rattle.counter.specs.declared.Order.TheVariants as order
+use Rattle.answer.specs.declared.Refusal.{Refusal}
+use Rattle.answer.specs.declared.Refusal.TheVariants.{NoPart}
 use Rattle.counter.specs.declared.Hand.{Hand}
 use Rattle.counter.specs.declared.Hand.TheVariants as hand
-use Rattle.std.specs.Prelude.{Option, Some, None}
+use Rattle.std.specs.Prelude.{Option, Some, None, Result, Ok, Err, ok_or}
 use Rattle.counter.specs.declared.Best.{Best}
-use Rattle.counter.specs.Counter.{part_number, major, minor, release, counts, best_cell, best_in, ordered, order_in, against, handed, hand_in}
+use Rattle.counter.specs.Counter.{part_number, major, minor, release, counts, best_cell, best_in, order_in, against, handed, hand_in}
 use Rattle.counter.specs.Claims.{Above, SameRelease, InSpan, ToOrder, AllEmpty, OrderSays, Lists, HandSays}
 use Rattle.counter.proofs.Chosen.{Chosen, BestOf, best-in, one_best}
 
@@ -164,14 +164,14 @@ module _ (t : List ℕ) (lowest count : ℕ) where
   unfolding order_in
   order_says = go (best_in None t lowest count) (best-in None t lowest count)
     where
-      go : (b : Option Best) → BestOf None t lowest end b → OrderSays t lowest count (ordered b)
+      go : (b : Option Best) → BestOf None t lowest end b → OrderSays t lowest count (ok_or b NoPart)
       go (Some b) h = (chosen_order b.cell b.value h, h.value)
       go None h = (refl, best_none h)
 
-  pub says_order : (a : Order) → OrderSays t lowest count a → order_in t lowest count ≡ a
+  pub says_order : (a : Result Best Refusal) → OrderSays t lowest count a → order_in t lowest count ≡ a
   unfolding order_in
-  says_order (order.Cell c v) h = ap ordered (best_order c h.0) ∙ ap (order.Cell c) (sym h.1)
-  says_order (order.Refused n) h = ap ordered (best_nothing h.1) ∙ ap order.Refused (sym h.0)
+  says_order (Ok b) h = ap (λ x. ok_or x NoPart) (best_order b.cell h.0) ∙ ap (λ v. Ok (record { cell = b.cell; value = v })) (sym h.1)
+  says_order (Err r) h = ap (λ x. ok_or x NoPart) (best_nothing h.1) ∙ ap Err (sym h.0)
 
   -- A PART IN HAND
 
@@ -188,13 +188,13 @@ module _ (t : List ℕ) (lowest count : ℕ) where
     lists-counts j l = part-counts (get_or t j 0) p l.not_empty l.lists
 
     against-says : (c v : ℕ) → Chosen None t lowest end c v → (part_number v ≡ p → ⊥) → (d : Option Best) → BestOf (Some p) t lowest end d
-        → HandSays t lowest count p (against v d)
+        → HandSays t lowest count p (Ok (against v d))
     unfolding against
     against-says c v h n None k =
         (c, chosen_order c v h, (λ j l. false≢true (sym (k j l.in_span.0 l.in_span.1) ∙ lists-counts j l)))
     against-says c v h n (Some d) k = go (ltb (release d.value) (release v)) refl
       where
-        go : (b : Bool) → ltb (release d.value) (release v) ≡ b → HandSays t lowest count p (pick b hand.Older hand.Equal)
+        go : (b : Bool) → ltb (release d.value) (release v) ≡ b → HandSays t lowest count p (Ok (pick b hand.Older hand.Equal))
         go true q =
             let x = ltb-true (release d.value) (release v) q in
             let e = ap release h.value in (
@@ -215,7 +215,7 @@ module _ (t : List ℕ) (lowest count : ℕ) where
     unfolding hand_in
     hand_says = go (best_in None t lowest count) (best-in None t lowest count)
       where
-        part : (c v : ℕ) → Chosen None t lowest end c v → (b : Bool) → eqb (part_number v) p ≡ b → HandSays t lowest count p (pick b hand.ThatOne (against v listed))
+        part : (c v : ℕ) → Chosen None t lowest end c v → (b : Bool) → eqb (part_number v) p ≡ b → HandSays t lowest count p (Ok (pick b hand.ThatOne (against v listed)))
         part c v h true q = (c, chosen_order c v h, ap part_number (sym h.value) ∙ eqb-true (part_number v) p q)
         part c v h false q = against-says c v h (eqb-false (part_number v) p q) listed (best-in (Some p) t lowest count)
 
@@ -224,21 +224,21 @@ module _ (t : List ℕ) (lowest count : ℕ) where
         go None h = (refl, best_none h)
 
     -- with the cell to order known, and the part another
-    other : (c : ℕ) → ToOrder t lowest count c → (part_number (get_or t c 0) ≡ p → ⊥) → hand_in t lowest count p ≡ against (get_or t c 0) listed
+    other : (c : ℕ) → ToOrder t lowest count c → (part_number (get_or t c 0) ≡ p → ⊥) → hand_in t lowest count p ≡ Ok (against (get_or t c 0) listed)
     unfolding hand_in
     other c o n =
         ap (λ b. handed p b listed) (best_order c o)
-        ∙ ap (λ b. pick b hand.ThatOne (against (get_or t c 0) listed)) (ne_eqb (part_number (get_or t c 0)) p n)
+        ∙ ap (λ b. Ok (pick b hand.ThatOne (against (get_or t c 0) listed))) (ne_eqb (part_number (get_or t c 0)) p n)
 
     mine_lists : (c : ℕ) → ToOrder t lowest count c → part_number (get_or t c 0) ≡ p → Lists t lowest count p c
     mine_lists c o e = record { in_span = o.in_span; not_empty = o.not_empty; lists = e }
 
-    pub says_hand : (a : Hand) → HandSays t lowest count p a → hand_in t lowest count p ≡ a
+    pub says_hand : (a : Result Hand Refusal) → HandSays t lowest count p a → hand_in t lowest count p ≡ a
     unfolding hand_in against
-    says_hand hand.ThatOne (c, o, e) =
+    says_hand (Ok hand.ThatOne) (c, o, e) =
         ap (λ b. handed p b listed) (best_order c o)
-        ∙ ap (λ b. pick b hand.ThatOne (against (get_or t c 0) listed)) (eq-eqb (part_number (get_or t c 0)) p e)
-    says_hand hand.Equal (c, o, n, j, l, q) = other c o n ∙ go listed (best-in (Some p) t lowest count)
+        ∙ ap (λ b. Ok (pick b hand.ThatOne (against (get_or t c 0) listed))) (eq-eqb (part_number (get_or t c 0)) p e)
+    says_hand (Ok hand.Equal) (c, o, n, j, l, q) = other c o n ∙ ap Ok (go listed (best-in (Some p) t lowest count))
       where
         go : (d : Option Best) → BestOf (Some p) t lowest end d → against (get_or t c 0) d ≡ hand.Equal
         go None k = absurd (false≢true (sym (k j l.in_span.0 l.in_span.1) ∙ lists-counts j l))
@@ -246,7 +246,7 @@ module _ (t : List ℕ) (lowest count : ℕ) where
             let m = k.most j l.in_span.0 l.in_span.1 (lists-counts j l) in
             let e = same-release (get_or t j 0) (get_or t c 0) q in
             ap (λ b. pick b hand.Older hand.Equal) (le-ltb (release d.value) (release (get_or t c 0)) (omega arith))
-    says_hand hand.Older (c, o, j, l, f) = other c o (λ e. apart (f c (mine_lists c o e))) ∙ go listed (best-in (Some p) t lowest count)
+    says_hand (Ok hand.Older) (c, o, j, l, f) = other c o (λ e. apart (f c (mine_lists c o e))) ∙ ap Ok (go listed (best-in (Some p) t lowest count))
       where
         apart : Above (get_or t c 0) (get_or t c 0) → ⊥
         apart a = let x = above_release (get_or t c 0) (get_or t c 0) a in omega arith
@@ -257,13 +257,13 @@ module _ (t : List ℕ) (lowest count : ℕ) where
             let x = above_release (get_or t c 0) (get_or t d.cell 0) (f d.cell (chosen_lists d.cell d.value k)) in
             let e = ap release k.value in
             ap (λ b. pick b hand.Older hand.Equal) (lt-ltb (release d.value) (release (get_or t c 0)) (omega arith))
-    says_hand hand.NotListed (c, o, f) = other c o (λ e. f c (mine_lists c o e)) ∙ go listed (best-in (Some p) t lowest count)
+    says_hand (Ok hand.NotListed) (c, o, f) = other c o (λ e. f c (mine_lists c o e)) ∙ ap Ok (go listed (best-in (Some p) t lowest count))
       where
         go : (d : Option Best) → BestOf (Some p) t lowest end d → against (get_or t c 0) d ≡ hand.NotListed
         go None k = refl
         go (Some d) k = absurd (f d.cell (chosen_lists d.cell d.value k))
-    says_hand (hand.Refused n) h = ap (λ b. handed p b listed) (best_nothing h.1) ∙ ap hand.Refused (sym h.0)
+    says_hand (Err r) h = ap (λ b. handed p b listed) (best_nothing h.1) ∙ ap Err (sym h.0)
 
     -- no two answers say true things
-    pub one_hand : (a b : Hand) → HandSays t lowest count p a → HandSays t lowest count p b → a ≡ b
+    pub one_hand : (a b : Result Hand Refusal) → HandSays t lowest count p a → HandSays t lowest count p b → a ≡ b
     one_hand a b x y = sym (says_hand a x) ∙ says_hand b y

@@ -2,7 +2,7 @@
 -- a span within N lies in it.
 use Prim.Native.Nat.{ℕ, zero, suc, ◌+◌, ◌*◌, ◌-◌, ◌≤◌, ◌<◌}
 use mathlib.Core.Path.{◌≡◌, refl, sym, ap, ◌∙◌}
-use mathlib.Core.Bool.{Bool, true, false}
+use mathlib.Core.Bool.{Bool, true, false, true≢false}
 use mathlib.Core.List.{List}
 use native.Mathlib.Omega.{arith}
 use borrow.Author.Tests.{eq-eqb, ne_eqb, le-leb, lt-leb, leb-true}
@@ -17,11 +17,16 @@ use Rattle.medium.specs.Lent.{on_medium}
 use Rattle.medium.proofs.Heads.{view_refused}
 use Rattle.medium.proofs.Cells.{cell-value}
 use Rattle.recovery.proofs.Recovering.{Head, head_fits}
-use Rattle.counter.specs.declared.Order.TheVariants as order
+use Rattle.std.specs.Prelude.{Option, Some, None, Result, Ok, Err, ok_or, is_ok, IsErrAnd}
+use Rattle.std.proofs.lemmas.Result.{err_from_is_err_and}
+use Rattle.std.specs.Result.{result_and}
+use Rattle.answer.specs.Answer.{number_of}
+use Rattle.answer.specs.declared.Refusal.{Refusal}
+use Rattle.answer.specs.declared.Refusal.TheVariants.{Unfit, NoCell, NoPart}
+use Rattle.answer.proofs.Refusals.{number-above, told-beside, refusal-same}
 use Rattle.counter.specs.declared.Hand.TheVariants as hand
-use Rattle.std.specs.Prelude.{Option, Some, None}
 use Rattle.counter.specs.declared.Best.{Best}
-use Rattle.counter.specs.Counter.{part_number, counts, best_cell, better, best_with_cell, best_from, best_in, table_in, span_refusal, order_unless, hand_unless, ordered, order_in, cell_to_order, against, handed, hand_in, part_in_hand}
+use Rattle.counter.specs.Counter.{part_number, counts, best_cell, better, best_with_cell, best_from, best_in, table_in, in_table, span_refusal, order_in, cell_to_order, against, handed, hand_in, part_in_hand}
 
 -- one cell more
 
@@ -78,14 +83,7 @@ from_same s t u c (suc left) b h =
     ap (λ v. best_from s t (c + 1) left (best_with_cell s c v b)) (h c (omega arith) (omega arith))
     ∙ from_same s t u (c + 1) left (best_with_cell s c (get_or u c 0) b) (λ i a l. h i (omega arith) (omega arith))
 
--- the table view
-
-view_ok : (m : List ℕ) (x : ℕ) → x ≡ refusal_of (act TableView (on_medium m)).answer → x ≡ 0 → is_head_ok m ≡ true
-view_ok m x e h = go (is_head_ok m) refl
-  where
-    go : (t : Bool) → t ≡ is_head_ok m → is_head_ok m ≡ true
-    go true p = sym p
-    go false p = absurd (omega (arith, view_refused m false p refl))
+-- the table view of a head in rule
 
 module _ (m table : List ℕ) (ok : is_head_ok m ≡ true) (q : table ≡ part_of (act TableView (on_medium m)).answer) where
   view_table : table ≡ drop (32 + 32 * number_at 4 4 m) m
@@ -100,58 +98,73 @@ module _ (m table : List ℕ) (ok : is_head_ok m ≡ true) (q : table ≡ part_o
 
 -- the refusals of a span
 
-module _ (m : List ℕ) (no : ℕ) (e : no ≡ refusal_of (act TableView (on_medium m)).answer) (lowest count : ℕ) where
-  pub refused_view : (no ≡ 0 → ⊥) → no ≡ span_refusal m lowest count
-  unfolding span_refusal act performed refusal tests on_medium
-  refused_view h = go (is_head_ok m) refl
-    where
-      go : (t : Bool) → is_head_ok m ≡ t → no ≡ pick t (pick (leb (lowest + count) (number_at 4 0 m)) 0 4) 1
-      go true p = absurd (h (e ∙ simp p))
-      go false p = e ∙ simp p
+ok_is_no_refusal : {r : Refusal} → ◌≡◌ {A = Result Unit Refusal} (Ok tt) (Err r) → ⊥
+ok_is_no_refusal e = true≢false (ap is_ok e)
 
-  module _ (h : no ≡ 0) (table : List ℕ) (q : table ≡ part_of (act TableView (on_medium m)).answer) where
-    pub refused_span : length table < 8 * (lowest + count) → 4 ≡ span_refusal m lowest count
+-- what a `?` hands on
+
+pub handed_on : {T : Type 0} {x : Refusal} {r : Result T Refusal} → IsErrAnd r (λ y. y ≡ x) → r ≡ Err x
+handed_on {r = r} i = let p = err_from_is_err_and r i in p.1 ∙ ap Err p.2
+
+pub no_best : {x : Refusal} (p : ℕ) (b d : Option Best) → Err x ≡ ok_or b NoPart → Err x ≡ handed p b d
+no_best p (Some b) d e = absurd (true≢false (sym (ap is_ok e)))
+no_best p None d e = ap (λ r. result_and r (handed p None d)) e
+
+number_one : (r : Refusal) → number_of r ≡ 1 → Unfit ≡ r
+number_one r e = sym (refusal-same r Unfit e (told-beside r (λ z. omega arith) (λ z. omega arith)))
+
+module _ (m : List ℕ) (lowest count : ℕ) where
+  pub refused_view : (r : Refusal) → number_of r ≡ refusal_of (act TableView (on_medium m)).answer → Err r ≡ span_refusal m lowest count
+  unfolding span_refusal act performed refusal tests on_medium
+  refused_view r e = go (is_head_ok m) refl
+    where
+      go : (t : Bool) → is_head_ok m ≡ t → Err r ≡ pick t (in_table (number_at 4 0 m) lowest count) (Err Unfit)
+      go true p = absurd (number-above r (e ∙ simp p))
+      go false p = ap Err (sym (number_one r (e ∙ simp p)))
+
+  view_ok : 0 ≡ refusal_of (act TableView (on_medium m)).answer → is_head_ok m ≡ true
+  view_ok e = go (is_head_ok m) refl
+    where
+      go : (t : Bool) → is_head_ok m ≡ t → is_head_ok m ≡ true
+      go true p = p
+      go false p = absurd (omega (arith, view_refused m p))
+
+  module _ (h : 0 ≡ refusal_of (act TableView (on_medium m)).answer) (table : List ℕ) (q : table ≡ part_of (act TableView (on_medium m)).answer) where
+    pub refused_span : length table < 8 * (lowest + count) → Err NoCell ≡ span_refusal m lowest count
     unfolding span_refusal
     refused_span l =
-        let ok = view_ok m no e h in
+        let ok = view_ok h in
         let z = lt-leb (lowest + count) (number_at 4 0 m) (omega (arith, view_length m table ok q)) in simp (ok, z)
 
-    pub span_accepted : 8 * (lowest + count) ≤ length table → 0 ≡ span_refusal m lowest count
+    pub span_accepted : 8 * (lowest + count) ≤ length table → Ok tt ≡ span_refusal m lowest count
     unfolding span_refusal
     span_accepted l =
-        let ok = view_ok m no e h in
+        let ok = view_ok h in
         let z = le-leb (lowest + count) (number_at 4 0 m) (omega (arith, view_length m table ok q)) in simp (ok, z)
 
--- the answers of a refused span
+  -- the answers of a refused span
 
-module _ (m : List ℕ) (no lowest count : ℕ) (e : no ≡ span_refusal m lowest count) where
-  pub order_refused : (no ≡ 0 → ⊥) → order.Refused no ≡ cell_to_order m lowest count
-  unfolding cell_to_order
-  order_refused h = go no h ∙ ap (λ x. order_unless x (order_in (table_in m) lowest count)) e
-    where
-      go : (x : ℕ) → (x ≡ 0 → ⊥) → order.Refused x ≡ order_unless x (order_in (table_in m) lowest count)
-      go zero n = absurd (n refl)
-      go (suc x) n = refl
+  module _ (r : Refusal) (e : Err r ≡ span_refusal m lowest count) where
+    pub order_refused : Err r ≡ cell_to_order m lowest count
+    unfolding cell_to_order
+    order_refused = ap (λ x. result_and x (order_in (table_in m) lowest count)) e
 
-  pub hand_refused : (p : ℕ) → (no ≡ 0 → ⊥) → hand.Refused no ≡ part_in_hand m lowest count p
-  unfolding part_in_hand
-  hand_refused p h = go no h ∙ ap (λ x. hand_unless x (hand_in (table_in m) lowest count p)) e
-    where
-      go : (x : ℕ) → (x ≡ 0 → ⊥) → hand.Refused x ≡ hand_unless x (hand_in (table_in m) lowest count p)
-      go zero n = absurd (n refl)
-      go (suc x) n = refl
+    pub hand_refused : (p : ℕ) → Err r ≡ part_in_hand m lowest count p
+    unfolding part_in_hand
+    hand_refused p = ap (λ x. result_and x (hand_in (table_in m) lowest count p)) e
 
   -- .. and of one that is not: it lies in the table view
 
-  module _ (h : no ≡ 0) where
+  module _ (e : Ok tt ≡ span_refusal m lowest count) where
     span_in : (is_head_ok m ≡ true) × (lowest + count ≤ number_at 4 0 m)
     unfolding span_refusal
-    span_in = go (is_head_ok m) (leb (lowest + count) (number_at 4 0 m)) refl refl (sym e ∙ h)
+    span_in = go (is_head_ok m) (leb (lowest + count) (number_at 4 0 m)) refl refl e
       where
-        go : (t u : Bool) → is_head_ok m ≡ t → leb (lowest + count) (number_at 4 0 m) ≡ u → ◌≡◌ {A = ℕ} (pick t (pick u 0 4) 1) 0 → (is_head_ok m ≡ true) × (lowest + count ≤ number_at 4 0 m)
+        go : (t u : Bool) → is_head_ok m ≡ t → leb (lowest + count) (number_at 4 0 m) ≡ u → ◌≡◌ {A = Result Unit Refusal} (Ok tt) (pick t (pick u (Ok tt) (Err NoCell)) (Err Unfit))
+            → (is_head_ok m ≡ true) × (lowest + count ≤ number_at 4 0 m)
         go true true p q z = (p, leb-true (lowest + count) (number_at 4 0 m) q)
-        go true false p q z = absurd (omega arith)
-        go false u p q z = absurd (omega arith)
+        go true false p q z = absurd (ok_is_no_refusal z)
+        go false u p q z = absurd (ok_is_no_refusal z)
 
     module _ (table : List ℕ) (q : table ≡ part_of (act TableView (on_medium m)).answer) where
       pub span_lent : (8 * (lowest + count) ≤ length table) × (lowest + count ≤ 1024)
@@ -169,23 +182,23 @@ module _ (m : List ℕ) (no lowest count : ℕ) (e : no ≡ span_refusal m lowes
           (λ i a l. cell-value (lowest + count) i table l ∙ ap (number_at 8 (8 * i)) w ∙ sym (cell-value (number_at 4 0 m) i (drop (32 + 32 * number_at 4 4 m) m) (omega arith)))
 
       module _ (b : Option Best) (f : b ≡ best_in None (cells_of (lowest + count) table) lowest count) where
-        pub as_ordered : ordered b ≡ cell_to_order m lowest count
+        pub as_ordered : ok_or b NoPart ≡ cell_to_order m lowest count
         unfolding cell_to_order order_in
-        as_ordered = ap ordered (f ∙ best_table None) ∙ ap (λ x. order_unless x (order_in (table_in m) lowest count)) (sym h ∙ e)
+        as_ordered = ap (λ x. ok_or x NoPart) (f ∙ best_table None) ∙ ap (λ x. result_and x (order_in (table_in m) lowest count)) e
 
         pub as_handed : (p : ℕ) (d : Option Best) → d ≡ best_in (Some p) (cells_of (lowest + count) table) lowest count → handed p b d ≡ part_in_hand m lowest count p
         unfolding part_in_hand hand_in
         as_handed p d g =
             (λ i. handed p ((f ∙ best_table None) i) ((g ∙ best_table (Some p)) i))
-            ∙ ap (λ x. hand_unless x (hand_in (table_in m) lowest count p)) (sym h ∙ e)
+            ∙ ap (λ x. result_and x (hand_in (table_in m) lowest count p)) e
 
         module _ (c v p n : ℕ) (g : b ≡ best_cell c v) (k : n ≡ part_number v) where
-          pub hand_that : n ≡ p → hand.ThatOne ≡ part_in_hand m lowest count p
+          pub hand_that : n ≡ p → Ok hand.ThatOne ≡ part_in_hand m lowest count p
           hand_that z =
               let listed = best_in (Some p) (cells_of (lowest + count) table) lowest count in
-              sym (ap (λ x. pick x hand.ThatOne (against v listed)) (eq-eqb (part_number v) p (sym k ∙ z))) ∙ ap (λ x. handed p x listed) (sym g) ∙ as_handed p listed refl
+              sym (ap (λ x. Ok (pick x hand.ThatOne (against v listed))) (eq-eqb (part_number v) p (sym k ∙ z))) ∙ ap (λ x. handed p x listed) (sym g) ∙ as_handed p listed refl
 
           pub hand_other : (n ≡ p → ⊥) → (d : Option Best) → d ≡ best_in (Some p) (cells_of (lowest + count) table) lowest count
-              → against v d ≡ part_in_hand m lowest count p
+              → Ok (against v d) ≡ part_in_hand m lowest count p
           hand_other z d l =
-              sym (ap (λ x. pick x hand.ThatOne (against v d)) (ne_eqb (part_number v) p (λ y. z (k ∙ y)))) ∙ ap (λ x. handed p x d) (sym g) ∙ as_handed p d l
+              sym (ap (λ x. Ok (pick x hand.ThatOne (against v d))) (ne_eqb (part_number v) p (λ y. z (k ∙ y)))) ∙ ap (λ x. handed p x d) (sym g) ∙ as_handed p d l

@@ -1,10 +1,11 @@
 -- THE COUNTER SCREEN (ticket 1): for a control unit, a span of cells, the cell to order; and for a part number in hand, what it is.
-use Rattle.std.specs.Prelude.{ℕ, zero, suc, ◌+◌, ◌*◌, ◌/◌, ◌%◌, Bool, not, ◌&&◌, List, Option, Some, None, ltb, leb, eqb, get_or}
+use Rattle.std.specs.Prelude.{ℕ, zero, suc, ◌+◌, ◌*◌, ◌/◌, ◌%◌, Bool, not, ◌&&◌, List, Option, Some, None, Result, Ok, Err, ok_or, ltb, leb, eqb, get_or}
+use Rattle.std.specs.Result.{result_and}
 use Rattle.scope.specs.Bytes.{pick, number_at}
 use Rattle.scope.specs.Keeper.{is_head_ok}
 use Rattle.scope.specs.Recovery.{table_of}
-use Rattle.counter.specs.declared.Order.{Order}
-use Rattle.counter.specs.declared.Order.TheVariants as order
+use Rattle.answer.specs.declared.Refusal.{Refusal}
+use Rattle.answer.specs.declared.Refusal.TheVariants.{Unfit, NoCell, NoPart}
 use Rattle.counter.specs.declared.Hand.{Hand}
 use Rattle.counter.specs.declared.Hand.TheVariants as hand
 use Rattle.counter.specs.declared.Best.{Best}
@@ -51,54 +52,33 @@ best_in s t lowest count = best_from s t lowest count None
 unfoldable pub table_in : List ℕ → List ℕ
 table_in m = table_of (number_at 4 0 m) (number_at 4 4 m) m
 
--- 1: the head is out of rule, as table view says; then 4: lowest plus count is above N. 0: neither
-unfoldable pub span_refusal : List ℕ → ℕ → ℕ → ℕ
-span_refusal m lowest count = pick (is_head_ok m) (pick (leb (lowest + count) (number_at 4 0 m)) 0 4) 1
+-- a span of a table of n cells; NoCell, which is 4: lowest plus count is above n
+abbrev pub in_table : ℕ → ℕ → ℕ → Result Unit Refusal
+in_table n lowest count = pick (leb (lowest + count) n) (Ok tt) (Err NoCell)
 
-abbrev pub order_unless : ℕ → Order → Order
-order_unless zero a = a
-order_unless (suc n) a = order.Refused (suc n)
+-- on a medium: Unfit, which is 1: the head is out of rule, as table view says; then as above
+unfoldable pub span_refusal : List ℕ → ℕ → ℕ → Result Unit Refusal
+span_refusal m lowest count = pick (is_head_ok m) (in_table (number_at 4 0 m) lowest count) (Err Unfit)
 
-abbrev pub hand_unless : ℕ → Hand → Hand
-hand_unless zero a = a
-hand_unless (suc n) a = hand.Refused (suc n)
+-- THE CELL TO ORDER in a table, and on a medium. NoPart, which is 12: every cell of the span is empty
+unfoldable pub order_in : List ℕ → ℕ → ℕ → Result Best Refusal
+order_in t lowest count = ok_or (best_in None t lowest count) NoPart
 
--- 12, no part: every cell of the span is empty
-abbrev pub ordered : Option Best → Order
-ordered (Some b) = order.Cell b.cell b.value
-ordered None = order.Refused 12
-
--- THE CELL TO ORDER in a table, and on a medium
-unfoldable pub order_in : List ℕ → ℕ → ℕ → Order
-order_in t lowest count = ordered (best_in None t lowest count)
-
-unfoldable pub cell_to_order : List ℕ → ℕ → ℕ → Order
-cell_to_order m lowest count = order_unless (span_refusal m lowest count) (order_in (table_in m) lowest count)
+unfoldable pub cell_to_order : List ℕ → ℕ → ℕ → Result Best Refusal
+cell_to_order m lowest count = result_and (span_refusal m lowest count) (order_in (table_in m) lowest count)
 
 -- a part that is not the one to order, whose value is v: by the best of the cells that list it
 unfoldable pub against : ℕ → Option Best → Hand
 against v (Some b) = pick (ltb (release b.value) (release v)) hand.Older hand.Equal
 against v None = hand.NotListed
 
-abbrev pub handed : ℕ → Option Best → Option Best → Hand
-handed p (Some b) listed = pick (eqb (part_number b.value) p) hand.ThatOne (against b.value listed)
-handed p None listed = hand.Refused 12
+abbrev pub handed : ℕ → Option Best → Option Best → Result Hand Refusal
+handed p (Some b) listed = Ok (pick (eqb (part_number b.value) p) hand.ThatOne (against b.value listed))
+handed p None listed = Err NoPart
 
 -- WHAT A PART IN HAND IS: "that one, its equal in release, older or not listed; a part in several cells counts by its greatest release"
-unfoldable pub hand_in : List ℕ → ℕ → ℕ → ℕ → Hand
+unfoldable pub hand_in : List ℕ → ℕ → ℕ → ℕ → Result Hand Refusal
 hand_in t lowest count p = handed p (best_in None t lowest count) (best_in (Some p) t lowest count)
 
-unfoldable pub part_in_hand : List ℕ → ℕ → ℕ → ℕ → Hand
-part_in_hand m lowest count p = hand_unless (span_refusal m lowest count) (hand_in (table_in m) lowest count p)
-
--- the paper's number of an answer, 0 where it is none
-abbrev pub order_number : Order → ℕ
-order_number (order.Cell c v) = 0
-order_number (order.Refused n) = n
-
-abbrev pub hand_number : Hand → ℕ
-hand_number hand.ThatOne = 0
-hand_number hand.Equal = 0
-hand_number hand.Older = 0
-hand_number hand.NotListed = 0
-hand_number (hand.Refused n) = n
+unfoldable pub part_in_hand : List ℕ → ℕ → ℕ → ℕ → Result Hand Refusal
+part_in_hand m lowest count p = result_and (span_refusal m lowest count) (hand_in (table_in m) lowest count p)

@@ -2,11 +2,16 @@
 // lent, copies nothing and changes nothing, and says what the bytes say: the caller recovers the medium first.
 #![tactic(auto)]
 
-ghost use Rattle.std.specs.Prelude.{◌≡◌, ◌+◌, ◌*◌, ◌≤◌, Some, length};
-ghost use Rattle.scope.specs.Keeper.{cells_of};
+ghost use Rattle.std.specs.Prelude.{◌≡◌, ◌+◌, ◌*◌, ◌≤◌, Some, Ok, IfOk, length};
+ghost use Rattle.std.specs.Result.{result_and};
+ghost use Rattle.scope.specs.Keeper.{cells_of, part_of};
+ghost use Rattle.scope.specs.Refusals.{TableView};
+ghost use Rattle.scope.specs.Calls.{act};
+ghost use Rattle.medium.specs.Lent.{on_medium};
 ghost use Rattle.counter.specs.Counter.{part_number, release, counts, better, best_in, span_refusal, cell_to_order, against, part_in_hand};
 
-use medium::head::{table_view, table_view_number};
+use answer::Refusal;
+use medium::head::try_table_view;
 use medium::layout::index;
 
 // A control unit: the span of cells that it owns.
@@ -16,28 +21,20 @@ pub struct ControlUnit {
     pub count: u32,
 }
 
-// The cell to order, with its value; or the refusal's number.
-#[derive(Clone, Copy)]
-pub enum Order {
-    Cell(u32, u64),
-    Refused(u32),
-}
-
-// What a part in hand is: the one to order, its equal in release, older, or not listed; or the refusal's number.
-#[derive(Clone, Copy)]
+// What a part in hand is: the one to order, its equal in release, older, or not listed.
+#[derive(Clone, Copy, Debug, PartialEq, Eq)]
 pub enum Hand {
     ThatOne,
     Equal,
     Older,
     NotListed,
-    Refused(u32),
 }
 
-// A cell of a span that counts, with its value.
-#[derive(Clone, Copy)]
-struct Best {
-    cell: u32,
-    value: u64,
+// The best cell of a span among those that count, with its value.
+#[derive(Clone, Copy, Debug, PartialEq, Eq)]
+pub struct Best {
+    pub cell: u32,
+    pub value: u64,
 }
 
 // The part that a value lists.
@@ -91,35 +88,33 @@ fn best_in(table: &[u8], unit: ControlUnit, sought: Option<u64>) -> Option<Best>
     best
 }
 
-// What both questions are refused with before any cell is read: 1, the head out of rule; or 4, lowest plus count, in 64 bits, above N; or 0.
-pub fn span_refusal(medium: &[u8], unit: ControlUnit) -> u32
-    ensures { result ≡ span_refusal medium.now unit.lowest unit.count }
+// The table, if a unit's span lies in it; else what `span_refusal` says.
+fn table_for(medium: &[u8], unit: ControlUnit) -> Result<&[u8], Refusal>
+    ensures refusal { result_and result (Ok tt) ≡ span_refusal medium.now unit.lowest unit.count }
+    ensures table { IfOk result (λ table. table.now ≡ part_of (act TableView (on_medium medium.now)).answer) }
 {
-    let no = table_view_number(medium);
-    if no != 0 {
-        return no;
-    }
-    let table = table_view(medium);
+    let table = try_table_view(medium)?;
     let end = index(unit.lowest) + index(unit.count);
     if table.len() < 8 * end {
-        return 4;
+        return Err(Refusal::NoCell);
     }
-    0
+    Ok(table)
+}
+
+// What both questions are refused with before any cell is read: 1, the head out of rule; or 4, lowest plus count, in 64 bits, above N.
+pub fn span_refusal(medium: &[u8], unit: ControlUnit) -> Result<(), Refusal>
+    ensures { result ≡ span_refusal medium.now unit.lowest unit.count }
+{
+    table_for(medium, unit).and(Ok(()))
 }
 
 // The cell to order for a unit: of the cells of its span that are not empty the one of greatest release, the lowest among equals. Refuses with 1,
 // the medium's head or length out of rule; 4, lowest plus count above N; 12, every cell of the span empty. Goes once over the span.
-pub fn cell_to_order(medium: &[u8], unit: ControlUnit) -> Order
+pub fn cell_to_order(medium: &[u8], unit: ControlUnit) -> Result<Best, Refusal>
     ensures { result ≡ cell_to_order medium.now unit.lowest unit.count }
 {
-    let no = span_refusal(medium, unit);
-    if no != 0 {
-        return Order::Refused(no);
-    }
-    match best_in(table_view(medium), unit, None) {
-        Some(best) => Order::Cell(best.cell, best.value),
-        None => Order::Refused(12),
-    }
+    let table = table_for(medium, unit)?;
+    best_in(table, unit, None).ok_or(Refusal::NoPart)
 }
 
 // A part that is not the one to order, by the best of the cells that list it.
@@ -136,19 +131,13 @@ fn against(value: u64, listed: Option<Best>) -> Hand
 
 // What a part in hand is for a unit: the one to order, its equal in release, older, or not listed; a part in several cells of the span counts
 // by its greatest release. Refuses as `cell_to_order` does. Goes twice over the span.
-pub fn part_in_hand(medium: &[u8], unit: ControlUnit, part: u64) -> Hand
+pub fn part_in_hand(medium: &[u8], unit: ControlUnit, part: u64) -> Result<Hand, Refusal>
     ensures { result ≡ part_in_hand medium.now unit.lowest unit.count part }
 {
-    let no = span_refusal(medium, unit);
-    if no != 0 {
-        return Hand::Refused(no);
-    }
-    let table = table_view(medium);
-    let Some(best) = best_in(table, unit, None) else {
-        return Hand::Refused(12);
-    };
+    let table = table_for(medium, unit)?;
+    let best = best_in(table, unit, None).ok_or(Refusal::NoPart)?;
     if part_number(best.value) == part {
-        return Hand::ThatOne;
+        return Ok(Hand::ThatOne);
     }
-    against(best.value, best_in(table, unit, Some(part)))
+    Ok(against(best.value, best_in(table, unit, Some(part))))
 }

@@ -4,47 +4,42 @@
 #![tactic(auto)]
 
 ghost use Rattle.std.specs.Prelude.{◌≡◌};
-ghost use Rattle.counter.specs.Counter.{cell_to_order, part_in_hand, order_number, hand_number};
+ghost use Rattle.answer.specs.Answer.{number_in};
+ghost use Rattle.counter.specs.Counter.{cell_to_order, part_in_hand};
 ghost use Rattle.counter_boundary.specs.Values.{order_value, hand_value};
 
-use counter::{ControlUnit, Hand, Order, cell_to_order, part_in_hand};
+use answer::Refusal;
+use counter::{Best, ControlUnit, Hand, cell_to_order, part_in_hand};
 
-fn order_number(order: Order) -> u32
-    ensures { result ≡ order_number order }
+fn number_in<T>(answer: &Result<T, Refusal>) -> u32
+    ensures { result ≡ number_in answer.now }
 {
-    match order {
-        Order::Cell(_, _) => 0,
-        Order::Refused(no) => no,
+    match answer {
+        Ok(_) => 0,
+        Err(refusal) => refusal.number(),
     }
 }
 
-fn order_value(order: Order) -> u64
+fn order_value(order: Result<Best, Refusal>) -> u64
     ensures { result ≡ order_value order }
 {
     match order {
-        Order::Cell(cell, _) => u64::from(cell),
-        Order::Refused(_) => 0,
+        Ok(best) => u64::from(best.cell),
+        Err(_) => 0,
     }
 }
 
-fn hand_number(hand: Hand) -> u32
-    ensures { result ≡ hand_number hand }
-{
-    match hand {
-        Hand::ThatOne | Hand::Equal | Hand::Older | Hand::NotListed => 0,
-        Hand::Refused(no) => no,
-    }
-}
-
-fn hand_value(hand: Hand) -> u64
+fn hand_value(hand: Result<Hand, Refusal>) -> u64
     ensures { result ≡ hand_value hand }
 {
+    let Ok(hand) = hand else {
+        return 0;
+    };
     match hand {
         Hand::ThatOne => 1,
         Hand::Equal => 2,
         Hand::Older => 3,
         Hand::NotListed => 4,
-        Hand::Refused(_) => 0,
     }
 }
 
@@ -55,12 +50,12 @@ pub extern "C" fn keeper_cell_to_order(
     count: u32,
     value: &mut u64,
 ) -> u32
-    ensures number { result ≡ order_number (cell_to_order medium.now lowest count) }
+    ensures number { result ≡ number_in (cell_to_order medium.now lowest count) }
     ensures value { value.new ≡ order_value (cell_to_order medium.now lowest count) }
 {
     let order = cell_to_order(medium, ControlUnit { lowest, count });
     *value = order_value(order);
-    order_number(order)
+    number_in(&order)
 }
 
 #[unsafe(no_mangle)]
@@ -71,10 +66,10 @@ pub extern "C" fn keeper_part_in_hand(
     part: u64,
     value: &mut u64,
 ) -> u32
-    ensures number { result ≡ hand_number (part_in_hand medium.now lowest count part) }
+    ensures number { result ≡ number_in (part_in_hand medium.now lowest count part) }
     ensures value { value.new ≡ hand_value (part_in_hand medium.now lowest count part) }
 {
     let hand = part_in_hand(medium, ControlUnit { lowest, count }, part);
     *value = hand_value(hand);
-    hand_number(hand)
+    number_in(&hand)
 }

@@ -3,7 +3,8 @@
 #![tactic(auto)]
 
 ghost use Rattle.std.specs.Prelude.{◌≡◌};
-ghost use Rattle.counter.specs.Counter.{cell_to_order, part_in_hand, order_number, hand_number};
+ghost use Rattle.answer.specs.Answer.{number_in};
+ghost use Rattle.counter.specs.Counter.{cell_to_order, part_in_hand};
 ghost use Rattle.counter_boundary.specs.Values.{order_value, hand_value};
 
 #[unsafe(no_mangle)]
@@ -13,7 +14,7 @@ pub extern "C" fn keeper_cell_to_order(
     count: u32,
     value: &mut u64,
 ) -> u32
-    ensures number { result ≡ order_number (cell_to_order medium.now lowest count) }
+    ensures number { result ≡ number_in (cell_to_order medium.now lowest count) }
     ensures value { value.new ≡ order_value (cell_to_order medium.now lowest count) }
 {
     counter_boundary::keeper_cell_to_order(medium, lowest, count, value)
@@ -27,7 +28,7 @@ pub extern "C" fn keeper_part_in_hand(
     part: u64,
     value: &mut u64,
 ) -> u32
-    ensures number { result ≡ hand_number (part_in_hand medium.now lowest count part) }
+    ensures number { result ≡ number_in (part_in_hand medium.now lowest count part) }
     ensures value { value.new ≡ hand_value (part_in_hand medium.now lowest count part) }
 {
     counter_boundary::keeper_part_in_hand(medium, lowest, count, part, value)

@@ -1,2 +1,3 @@
+pub mod Heads
 pub mod Meanings
 pub mod RowPlaces

@@ -7,9 +7,9 @@ use mathlib.Core.Option.{Option, none, some}
 use lib.Dec.{eqb}
 use Rattle.std.specs.Prelude.{Result, Ok, Err}
 use Rattle.scope.specs.Bytes.{pick}
-use Rattle.scope.specs.Row.{Entry, update, commit_entry, abort_entry, entry_of, is_update, Fault, fault_at}
+use Rattle.scope.specs.Row.{Entry, update, commit_entry, abort_entry, entry_of, is_update}
 use Rattle.scope.proofs.Row.{read_fields}
-use Rattle.row.specs.Row.{entry, meaning, reason_of}
+use Rattle.row.specs.Row.{entry, meaning}
 use Rattle.row.specs.declared.Entry as code
 use Rattle.row.specs.declared.Reason as reasons
 use Rattle.row.specs.declared.Entry.TheVariants.{Update, Commit, Abort}
@@ -59,7 +59,3 @@ unfolding entry_in
 entry-below rows base slots cells n c old new e =
     let f = read_fields cells n _ (update c old new) (sym e) in
     subst (λ x. x < cells) (same-cell _ _ _ _ c old new f.entry) f.below
-
--- what is told of a row that does not read has nothing to do with later ones
-pub wrong_alone : (r : Result code.Entry reasons.Reason) (x : reasons.Reason) → r ≡ Err x → (n : ℕ) (a b : Fault) → fault_at n (reason_of r) a ≡ fault_at n (reason_of r) b
-wrong_alone r x p n a b = ap (λ v. fault_at n (reason_of v) a) p ∙ sym (ap (λ v. fault_at n (reason_of v) b) p)

@@ -54,11 +54,18 @@ pub fn append(waiting: &mut [u8], slots: u32, n: u32, what: Entry)
     row::put_entry(waiting, row_at(slots, n), n, what);
 }
 
-// The waiting row of entry n, stored on the medium.
+// The waiting row of entry n, stored on the medium. As four words: copy_from_slice asks first whether the two overlap, and force is at its bar.
 pub fn store_row(medium: &mut [u8], waiting: &[u8], slots: u32, n: u32)
     requires { (Rows medium.old 32 slots n) × (Rows waiting.now 0 slots n) }
     ensures { medium.new ≡ put medium.old (32 + row_at slots n) (take 32 (drop (row_at slots n) waiting.now)) }
 {
-    let at = row_at(slots, n);
-    medium[at + 32..at + 64].copy_from_slice(&waiting[at..at + 32]);
+    let from = row_at(slots, n);
+    let a = number::get8(waiting, from);
+    let b = number::get8(waiting, from + 8);
+    let c = number::get8(waiting, from + 16);
+    let d = number::get8(waiting, from + 24);
+    number::put8(medium, from + 32, a);
+    number::put8(medium, from + 40, b);
+    number::put8(medium, from + 48, c);
+    number::put8(medium, from + 56, d);
 }

@@ -99,8 +99,7 @@ fn largest_medium() {
 // The length of the longest listing that there is but for one cell.
 fn longest_listing() {
     let mut desk = largest(|i| i, u64::MAX);
-    let text = listing_text::listing(&mut desk.medium);
-    let length = text.bytes().len();
+    let length = listing_text::listing(&mut desk.medium).bytes().len();
     say(format_args!("longest={length}\n"));
 }
 

@@ -83,7 +83,8 @@ impl Order {
     }
 }
 
-// The call that a word names. Words are compared as numbers: `cut` is 6,518,132.
+// The call that a word names. Words are compared as numbers, `cut` is 6,518,132: a match on their bytes would answer otherwise where zero
+// bytes stand before a word, which `word_key` doesn't see.
 #[tactic(auto, unfolding(crate::specs::Orders::call_kind))]
 fn call_kind(key: u64) -> Option<Kind>
     ensures { result ≡ call_kind key }
@@ -152,7 +153,8 @@ fn given(a: Span, b: Span, c: Span, d: Span) -> u32
     }
 }
 
-// A format: its two sizes, and the word `erase` or nothing.
+// A format: its two sizes, and the word `erase` or nothing. The line and its words are parameters of their own, here and below, as in the
+// definitions: a struct of them would be made once and taken apart at once.
 fn format(s: &[u8], given: u32, a: Span, b: Span, c: Span) -> Option<Order>
     ensures { result ≡ sizes_order s.now given a b c }
 {

@@ -3,272 +3,94 @@
 // two steps of a commit, or before the last store.
 #![tactic(auto)]
 
-use card::file::{Session, Told};
-use card::storing::Rows;
-use card::{file, storing};
-use console::{Asked, Call, Did};
-use keeper::State;
-use orders::{Order, Wrong, say, show};
-use std::fs::File;
-use std::rt::HostRuntime;
+mod reply;
 
-// What a call answered, and whether the answer was taken.
-fn answer(rt: HostRuntime, asked: Asked, did: Did) -> bool {
-    if did.said == console::STORED {
-        return say::say(b"answer=stored\n");
-    }
-    if did.said == console::CLEAN {
-        return say::say(b"answer=clean\n");
-    }
-    if did.said == console::CELL {
-        say::pair(b"cell=", did.value);
-        return say::say(b"answer=cell\n");
-    }
-    if did.said == console::HEAD {
-        return say::say(b"answer=head\n");
-    }
-    if asked.call == console::READ {
-        say::value(did.value);
-    }
-    if asked.call == console::START {
-        say::hint(
-            rt,
-            b"# recovery has begun: recover takes it to its end and names each cell that it stores\n",
-        );
-    }
-    say::pair(b"answer=", did.value)
-}
+use card::desk::Desk;
+use card::file::Session;
+use console::{Call, Did, Said};
+use keeper::State;
+use orders::{Order, say, show};
+use std::rt::HostRuntime;
+use words::Span;
 
 // What a call stored, brought to the file: its one store, or a commit's rows, which the state before it tells.
-fn bring(file: &Option<File>, before: State, asked: Asked, did: Did, medium: &[u8]) -> bool {
-    if asked.call != console::COMMIT {
-        return file::bring(file, medium, did.at, did.size);
+fn bring(
+    session: &Session,
+    before: State,
+    call: Call,
+    did: Did,
+    medium: &[u8],
+) -> std::io::Result<()> {
+    match call {
+        Call::Commit => session.bring_rows(medium, before.numbers.f, did.state.numbers.f),
+        _ => session.bring(medium, did.place),
     }
-    let after = did.state;
-    let slots = after.numbers.slots;
-    storing::bring_rows(file, medium, slots, before.numbers.f, after.numbers.f)
 }
 
 // A call's stores are brought to the file; only then it is answered.
-fn finish(rt: HostRuntime, session: Session, asked: Asked, did: Did, medium: &[u8]) -> Told {
-    let before = session.state;
-    let state = did.state;
-    let next = Session {
-        state,
-        file: session.file,
-        size: session.size,
-    };
-    if did.refused != 0 {
-        let fault = did.fault;
-        let heard = show::refused(did.refused, fault, medium);
-        return Told {
-            session: next,
-            on: heard,
-        };
-    }
-    if bring(&next.file, before, asked, did, medium) {} else {
-        return file::failed(next);
-    }
-    let heard = answer(rt, asked, did);
-    Told {
-        session: next,
-        on: heard,
-    }
-}
-
-fn asked(call: u32) -> Asked {
-    Asked {
-        call,
-        cell: 0,
-        value: 0,
-        entry: 0,
-    }
-}
-
-fn asked_for(call: Call) -> Asked {
-    match call {
-        Call::Begin => asked(console::BEGIN),
-        Call::Write { cell, value } => Asked {
-            call: console::WRITE,
-            cell,
-            value,
-            entry: 0,
-        },
-        Call::Abort => asked(console::ABORT),
-        Call::Commit => asked(console::COMMIT),
-        Call::Read { cell } => Asked {
-            call: console::READ,
-            cell,
-            value: 0,
-            entry: 0,
-        },
-        Call::Force => asked(console::FORCE),
-        Call::Cut { entry } => Asked {
-            call: console::CUT,
-            cell: 0,
-            value: 0,
-            entry,
-        },
-        Call::WriteBack { cell } => Asked {
-            call: console::BACK,
-            cell,
-            value: 0,
-            entry: 0,
-        },
-        Call::Step => asked(console::STEP),
-        Call::Start => asked(console::START),
-    }
-}
-
-// What a step of a recovery that runs to its end left.
-#[derive(Drop)]
-struct Walk {
-    told: Told,
-    more: bool,
-}
-
-fn walked(rt: HostRuntime, session: Session, did: Did, medium: &[u8]) -> Walk {
-    if did.said == console::CELL {} else {
-        return Walk {
-            told: finish(rt, session, asked(console::STEP), did, medium),
-            more: false,
-        };
-    }
-    let state = did.state;
-    let next = Session {
-        state,
-        file: session.file,
-        size: session.size,
-    };
-    if file::bring(&next.file, medium, did.at, did.size) {} else {
-        return Walk {
-            told: file::failed(next),
-            more: false,
-        };
-    }
-    let heard = say::pair(b"cell=", did.value);
-    Walk {
-        told: Told {
-            session: next,
-            on: heard,
-        },
-        more: heard,
-    }
-}
-
-fn step_on(
+fn finish(
     rt: HostRuntime,
-    session: Session,
-    medium: &mut [u8],
-    current: &mut [u64],
-    first: &mut [u32],
-    last: &mut [u32],
-    waiting: &mut [u8],
-) -> Walk {
-    let state = session.state;
-    let step = asked(console::STEP);
-    let did = console::make(state, step, medium, current, first, last, waiting);
-    walked(rt, session, did, medium)
+    session: &Session,
+    before: State,
+    call: Call,
+    did: Did,
+    medium: &[u8],
+) -> bool {
+    let said = match did.said {
+        Ok(said) => said,
+        Err(refused) => return show::refused(refused.number, refused.fault, medium),
+    };
+    match bring(session, before, call, did, medium) {
+        Ok(()) => reply::answer(rt, call, said),
+        Err(_) => reply::lost(),
+    }
+}
+
+// A call of the keeper's.
+fn call_on(rt: HostRuntime, session: &mut Session, call: Call, desk: &mut Desk<'_>) -> bool {
+    let before = session.state;
+    let did = session.make(call, desk);
+    finish(rt, session, before, call, did, desk.medium)
 }
 
 // Recovery, to its end: each cell is named as it is stored. It stores every cell at most once, and then the head.
-fn recover_on(
-    rt: HostRuntime,
-    session: Session,
-    medium: &mut [u8],
-    current: &mut [u64],
-    first: &mut [u32],
-    last: &mut [u32],
-    waiting: &mut [u8],
-) -> Told {
-    let mut told = Told { session, on: true };
-    let mut turns: u32 = 1025;
-    while 0 < turns {
-        turns -= 1;
-        let now = told.session;
-        let walk = step_on(rt, now, medium, current, first, last, waiting);
-        told = walk.told;
-        if walk.more {} else {
-            return told;
+fn recover_on(rt: HostRuntime, session: &mut Session, desk: &mut Desk<'_>) -> bool {
+    for _ in 0..1025 {
+        let before = session.state;
+        let did = session.make(Call::Step, desk);
+        let Ok(Said::Cell(cell)) = did.said else {
+            return finish(rt, session, before, Call::Step, did, desk.medium);
+        };
+        if session.bring(desk.medium, did.place).is_err() {
+            return reply::lost();
+        }
+        if !say::pair(b"cell=", u64::from(cell)) {
+            return false;
         }
     }
-    told
+    true
 }
 
 // Every entry that waits is stored, and in the file before the answer.
-fn store_on(
-    session: Session,
-    medium: &mut [u8],
-    current: &mut [u64],
-    first: &mut [u32],
-    last: &mut [u32],
-    waiting: &mut [u8],
-) -> Told {
-    let state = session.state;
-    let rows = storing::store_rows(&session.file, state, medium, current, first, last, waiting);
-    stored(session, rows, medium)
-}
-
-fn stored(session: Session, rows: Rows, medium: &[u8]) -> Told {
-    let state = rows.state;
-    let next = Session {
-        state,
-        file: session.file,
-        size: session.size,
-    };
-    if rows.taken {} else {
-        return file::failed(next);
-    }
-    if rows.refused != 0 {
-        let fault = rows.fault;
-        let heard = show::refused(rows.refused, fault, medium);
-        return Told {
-            session: next,
-            on: heard,
-        };
-    }
-    let heard = say::pair(b"answer=", rows.number);
-    Told {
-        session: next,
-        on: heard,
+fn store_on(session: &mut Session, desk: &mut Desk<'_>) -> bool {
+    match session.store_rows(desk) {
+        Ok(number) => say::pair(b"answer=", number),
+        Err(why) => reply::unstored(why, desk.medium),
     }
 }
 
-// An order on buffers of the medium's sizes.
-fn order_on(
-    rt: HostRuntime,
-    session: Session,
-    order: Order,
-    medium: &mut [u8],
-    current: &mut [u64],
-    first: &mut [u32],
-    last: &mut [u32],
-    waiting: &mut [u8],
-) -> Told {
-    match order {
-        Order::Recover => recover_on(rt, session, medium, current, first, last, waiting),
-        Order::Store => store_on(session, medium, current, first, last, waiting),
-        Order::Call(call) => {
-            let state = session.state;
-            let asked = asked_for(call);
-            let did = console::make(state, asked, medium, current, first, last, waiting);
-            finish(rt, session, asked, did, medium)
-        }
-        _ => Told { session, on: true },
-    }
-}
-
-// An order for the keeper, with the sizes that the medium's head names.
+// An order for the keeper, with the sizes that the medium's head names. The buffers come one by one: a part of a slice that lies behind a
+// field behind a `&mut` isn't lent on in a struct (tried; the check doesn't cover it).
 fn call(
     rt: HostRuntime,
-    session: Session,
+    session: &mut Session,
     order: Order,
     medium: &mut [u8],
     current: &mut [u64],
     first: &mut [u32],
     last: &mut [u32],
     waiting: &mut [u8],
-) -> Told {
+) -> bool {
     let cells = show::head_number(medium, 0);
     let rows = show::row_bytes(medium);
     let m = session.size.min(medium.len());
@@ -276,122 +98,130 @@ fn call(
     let n1 = cells.min(first.len());
     let n2 = cells.min(last.len());
     let w = rows.min(waiting.len());
-    order_on(
+    let mut desk = Desk {
+        medium: &mut medium[..m],
+        current: &mut current[..n],
+        first: &mut first[..n1],
+        last: &mut last[..n2],
+        waiting: &mut waiting[..w],
+    };
+    match order {
+        Order::Call(call) => call_on(rt, session, call, &mut desk),
+        Order::Recover => recover_on(rt, session, &mut desk),
+        Order::Store => store_on(session, &mut desk),
+        _ => true,
+    }
+}
+
+fn call_with(rt: HostRuntime, session: &mut Session, order: Order, desk: &mut Desk<'_>) -> bool {
+    call(
         rt,
         session,
         order,
-        &mut medium[0..m],
-        &mut current[0..n],
-        &mut first[0..n1],
-        &mut last[0..n2],
-        &mut waiting[0..w],
+        desk.medium,
+        desk.current,
+        desk.first,
+        desk.last,
+        desk.waiting,
     )
 }
 
-// Orders that are no call of the keeper's with a state.
-fn aside(session: Session, order: Order, medium: &[u8], waiting: &[u8]) -> Told {
-    let on = match order {
-        Order::Quit => false,
-        Order::Help => say::help(),
-        Order::List => show::list(medium, session.size),
-        Order::Look { entry } => {
-            let state = session.state;
-            show::look(state, entry, medium, waiting, session.size)
-        }
-        _ => true,
-    };
-    Told { session, on }
+fn look(session: &Session, entry: u32, desk: &Desk<'_>) -> bool {
+    show::look(
+        session.state,
+        entry,
+        desk.medium,
+        desk.waiting,
+        session.size,
+    )
 }
 
 // An order for the file that is open.
-fn on_file(
-    rt: HostRuntime,
-    session: Session,
-    order: Order,
-    medium: &mut [u8],
-    current: &mut [u64],
-    first: &mut [u32],
-    last: &mut [u32],
-    waiting: &mut [u8],
-) -> Told {
+fn on_file(rt: HostRuntime, session: &mut Session, order: Order, desk: &mut Desk<'_>) -> bool {
     match order {
         Order::Format {
             cells,
             slots,
             erase,
-        } => file::format(rt, session, cells, slots, erase, medium),
-        Order::Call(_) | Order::Recover | Order::Store => {
-            call(rt, session, order, medium, current, first, last, waiting)
-        }
-        _ => aside(session, order, medium, waiting),
+        } => match session.format(cells, slots, erase, desk.medium) {
+            Ok(()) => reply::formatted(rt),
+            Err(why) => reply::unformatted(why),
+        },
+        Order::Look { entry } => look(session, entry, desk),
+        Order::List => show::list(desk.medium, session.size),
+        _ => call_with(rt, session, order, desk),
     }
 }
 
-// One order. Open reads the file and starts recovery, which stores nothing.
+// A file's name, where the line has one that is text.
+fn path(line: &[u8], name: Span) -> Option<&str> {
+    std::str::from_utf8(line.get(name.from..name.to)?).ok()
+}
+
+fn opened(rt: HostRuntime, line: &[u8], name: Span, medium: &mut [u8]) -> Option<Session> {
+    Session::open(rt, path(line, name)?, medium).ok()
+}
+
+fn created(rt: HostRuntime, line: &[u8], name: Span) -> Option<Session> {
+    Session::create(rt, path(line, name)?).ok()
+}
+
+// Open reads the file and starts recovery, which stores nothing. Where it fails, the session before it is kept.
+fn open(
+    rt: HostRuntime,
+    session: &mut Option<Session>,
+    line: &[u8],
+    name: Span,
+    desk: &mut Desk<'_>,
+) -> bool {
+    let Some(mut next) = opened(rt, line, name, desk.medium) else {
+        return reply::unopened();
+    };
+    say::pair(b"bytes=", next.size as u64);
+    let heard = call_with(rt, &mut next, Order::Call(Call::Start), desk);
+    *session = Some(next);
+    heard
+}
+
+// A new file is empty; nothing is started on it. A name that is taken is refused, and the session before it is kept.
+fn create(rt: HostRuntime, session: &mut Option<Session>, line: &[u8], name: Span) -> bool {
+    let Some(next) = created(rt, line, name) else {
+        return reply::taken();
+    };
+    *session = Some(next);
+    reply::made()
+}
+
+// One order, and whether the terminal goes on.
 fn obey(
     rt: HostRuntime,
-    session: Session,
-    order: Result<Order, Wrong>,
+    session: &mut Option<Session>,
+    order: Order,
     line: &[u8],
-    medium: &mut [u8],
-    current: &mut [u64],
-    first: &mut [u32],
-    last: &mut [u32],
-    waiting: &mut [u8],
-) -> Told {
-    let order = match order {
-        Ok(order) => order,
-        Err(wrong) => {
-            return Told {
-                session,
-                on: say::usage(wrong),
-            };
-        }
-    };
-    if session.file.is_none() && order.wants_file() {
-        return Told {
-            session,
-            on: say::no_file(),
-        };
-    }
+    desk: &mut Desk<'_>,
+) -> bool {
     match order {
-        Order::Open(name) => {
-            let opened = file::open(rt, session, line, name, medium);
-            let next = opened.session;
-            if !opened.on {
-                return Told {
-                    session: next,
-                    on: file::say_unopened(),
-                };
-            }
-            let start = Order::Call(Call::Start);
-            call(rt, next, start, medium, current, first, last, waiting)
-        }
-        Order::New(name) => file::make(rt, session, line, name),
-        _ => on_file(rt, session, order, medium, current, first, last, waiting),
+        Order::Quit => false,
+        Order::Help => say::help(),
+        Order::Nothing => true,
+        Order::Open(name) => open(rt, session, line, name, desk),
+        Order::New(name) => create(rt, session, line, name),
+        _ => match session {
+            Some(session) => on_file(rt, session, order, desk),
+            None => say::no_file(),
+        },
     }
 }
 
 // Orders until the input ends, one says quit, the file fails, or nobody takes an answer any more.
-fn serve(
-    rt: HostRuntime,
-    line: &mut [u8],
-    medium: &mut [u8],
-    current: &mut [u64],
-    first: &mut [u32],
-    last: &mut [u32],
-    waiting: &mut [u8],
-) {
-    let mut session = file::session_at(None, 0);
-    let mut turns: u64 = 18446744073709551615;
-    while 0 < turns {
-        turns -= 1;
-        let order = orders::next(rt, line);
-        let told = obey(
-            rt, session, order, line, medium, current, first, last, waiting,
-        );
-        session = told.session;
-        if told.on {} else {
+fn serve(rt: HostRuntime, line: &mut [u8], desk: &mut Desk<'_>) {
+    let mut session = None;
+    for _ in 0..u64::MAX {
+        let goes_on = match orders::next(rt, line) {
+            Ok(order) => obey(rt, &mut session, order, line, desk),
+            Err(wrong) => say::usage(wrong),
+        };
+        if !goes_on {
             return;
         }
     }
@@ -404,13 +234,12 @@ fn main(rt: HostRuntime) {
     let mut first = [0u32; 1024];
     let mut last = [0u32; 1024];
     let mut waiting = [0u8; 32768];
-    serve(
-        rt,
-        &mut line,
-        &mut medium,
-        &mut current,
-        &mut first,
-        &mut last,
-        &mut waiting,
-    );
+    let mut desk = Desk {
+        medium: &mut medium,
+        current: &mut current,
+        first: &mut first,
+        last: &mut last,
+        waiting: &mut waiting,
+    };
+    serve(rt, &mut line, &mut desk);
 }

@@ -8,12 +8,12 @@ use native.Mathlib.Omega.{arith}
 use borrow.Author.Tests.{ltb-true, leb-true, leb-false, lt-ltb, le-ltb, le-leb, lt-leb, eq-eqb, ne_eqb}
 use lib.Dec.{ltb, leb, eqb}
 use Rattle.scope.specs.Bytes.{pick, max_no, number_at}
-use Rattle.scope.specs.Row.{Entry, read_row}
+use Rattle.scope.specs.Row.{Entry, read_row, Reason, Fault, faultless, fault, wrong_entry}
 use Rattle.scope.specs.Keeper.{is_head_ok}
 use Rattle.scope.specs.Recovery.{rows_of, firstly, any_holds, entries_from, at_most, journal}
 use Rattle.journal.specs.Entries.{entry_in}
 use Rattle.state.proofs.Facts.{and_left, and_right}
-use Rattle.walker.specs.Walk.{Met, holds, malformed, end, counts, as_read, next_in, next_on, followed, walked_from, walk}
+use Rattle.walker.specs.Walk.{Met, holds, malformed, end, counts, as_read, next_in, next_on, wrong_in, wrong_on, followed, walked_from, walk}
 
 -- which entries may count
 
@@ -23,9 +23,9 @@ module _ (slots h n : ℕ) where
   counts-dropped p = simp (lt-leb h n p)
 
   module _ (p : h ≤ n) where
-    pub counts-last : n ≡ 4294967295 → false ≡ counts slots h n
+    pub counts-last : 4294967295 ≤ n → false ≡ counts slots h n
     unfolding counts max_no
-    counts-last q = simp (le-leb h n p, le-ltb n 4294967295 (omega arith))
+    counts-last q = simp (le-leb h n p, le-ltb n 4294967295 q)
 
     pub counts-rest : n < 4294967295 → ltb (n - h) slots ≡ counts slots h n
     unfolding counts max_no
@@ -40,34 +40,42 @@ counts-below slots h n e = (search tests-true, search tests-true, search tests-t
 -- the row after entry n's
 
 module _ (m : List ℕ) (slots cells n : ℕ) where
-  pub next-other : (x : ℕ) → x ≡ number_at 4 0 (rows_of slots m (n + 1)) → (x ≡ n + 1 → ⊥) → end ≡ next_in (rows_of slots m) cells n
-  unfolding next_in
-  next-other x e q = simp (← e, ne_eqb x (n + 1) q)
+  pub next-other : (x : ℕ) → x ≡ number_at 4 0 (rows_of slots m (n + 1)) → (x ≡ n + 1 → ⊥)
+      → (end ≡ next_in (rows_of slots m) cells n) × (faultless ≡ wrong_in (rows_of slots m) cells n)
+  unfolding next_in wrong_in
+  next-other x e q = (simp (← e, ne_eqb x (n + 1) q), simp (← e, ne_eqb x (n + 1) q))
 
   module _ (x : ℕ) (e : x ≡ number_at 4 0 (rows_of slots m (n + 1))) (q : x ≡ n + 1) where
-    pub next-malformed : none ≡ entry_in m 32 slots cells (n + 1) → malformed ≡ next_in (rows_of slots m) cells n
-    unfolding next_in entry_in
-    next-malformed r = simp (← e, eq-eqb x (n + 1) q, ← r)
+    pub next-malformed : (y : Reason) → none ≡ entry_in m 32 slots cells (n + 1) → some y ≡ wrong_entry cells (n + 1) (rows_of slots m (n + 1))
+        → (malformed ≡ next_in (rows_of slots m) cells n) × (fault y (n + 1) ≡ wrong_in (rows_of slots m) cells n)
+    unfolding next_in wrong_in entry_in
+    next-malformed y r w = (simp (← e, eq-eqb x (n + 1) q, ← r), simp (← e, eq-eqb x (n + 1) q, ← w))
 
-    pub next-holds : (w : Entry) → some w ≡ entry_in m 32 slots cells (n + 1) → holds (n + 1) w ≡ next_in (rows_of slots m) cells n
-    unfolding next_in entry_in
-    next-holds w r = simp (← e, eq-eqb x (n + 1) q, ← r)
+    pub next-holds : (v : Entry) → some v ≡ entry_in m 32 slots cells (n + 1) → none ≡ wrong_entry cells (n + 1) (rows_of slots m (n + 1))
+        → (holds (n + 1) v ≡ next_in (rows_of slots m) cells n) × (faultless ≡ wrong_in (rows_of slots m) cells n)
+    unfolding next_in wrong_in entry_in
+    next-holds v r w = (simp (← e, eq-eqb x (n + 1) q, ← r), simp (← e, eq-eqb x (n + 1) q, ← w))
 
 -- what stands after an entry, by the head
 
 module _ (m : List ℕ) (n : ℕ) (t : Bool) (e : t ≡ is_head_ok m) where
-  pub no_head : t ≡ false → end ≡ next_on m n
-  unfolding next_on
-  no_head p = simp (← e, p)
+  pub no_head : t ≡ false → (end ≡ next_on m n) × (faultless ≡ wrong_on m n)
+  unfolding next_on wrong_on
+  no_head p = (simp (← e, p), simp (← e, p))
 
   module _ (p : t ≡ true) (slots h : ℕ) (qs : slots ≡ number_at 4 4 m) (qh : h ≡ number_at 4 8 m) (u : Bool) (f : u ≡ counts slots h n) where
-    pub no_count : u ≡ false → end ≡ next_on m n
-    unfolding next_on
-    no_count q = simp (← e, p, ← qs, ← qh, ← f, q)
+    pub no_count : u ≡ false → (end ≡ next_on m n) × (faultless ≡ wrong_on m n)
+    unfolding next_on wrong_on
+    no_count q = (simp (← e, p, ← qs, ← qh, ← f, q), simp (← e, p, ← qs, ← qh, ← f, q))
 
-    pub row_counts : u ≡ true → (cells : ℕ) → cells ≡ number_at 4 0 m → (x : Met) → x ≡ next_in (rows_of slots m) cells n → x ≡ next_on m n
-    unfolding next_on
-    row_counts q cells qc x r = r ∙ simp (← e, p, ← qs, ← qh, ← f, q, ← qc)
+    module _ (q : u ≡ true) (cells : ℕ) (qc : cells ≡ number_at 4 0 m) where
+      pub row_counts : (x : Met) → x ≡ next_in (rows_of slots m) cells n → x ≡ next_on m n
+      unfolding next_on
+      row_counts x r = r ∙ simp (← e, p, ← qs, ← qh, ← f, q, ← qc)
+
+      pub wrong_counts : (x : Fault) → x ≡ wrong_in (rows_of slots m) cells n → x ≡ wrong_on m n
+      unfolding wrong_on
+      wrong_counts x r = r ∙ simp (← e, p, ← qs, ← qh, ← f, q, ← qc)
 
 -- the entries of a walk
 
@@ -110,7 +118,7 @@ walk_none m p = go (at_most (number_at 4 4 m) (number_at 4 8 m))
   where
     go : (left : ℕ) → walked_from m left (number_at 4 8 m) ≡ []
     go zero = refl
-    go (suc left) = ap (λ x. followed x (walked_from m left (number_at 4 8 m + 1))) (sym (no_head m (number_at 4 8 m) false (sym p) refl))
+    go (suc left) = ap (λ x. followed x (walked_from m left (number_at 4 8 m + 1))) (sym (no_head m (number_at 4 8 m) false (sym p) refl).0)
 
 module _ (m : List ℕ) (ok : is_head_ok m ≡ true) where
   abbrev N : ℕ

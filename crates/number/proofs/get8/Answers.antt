@@ -4,4 +4,4 @@ use Rattle.number.proofs.Numbers.{eight}
 use Rattle.number.proofs.get8.Goals as goal
 
 pub returns : goal.returns
-returns c = eight _ _ _ _ (omega arith) (omega arith) (omega arith)
+returns c = omega (arith, eight c.args.s.now c.args.at _ _ (omega arith) c.get4.ensures c.get4-2.ensures)
