@@ -12,8 +12,9 @@ use Rattle.scope.specs.Recovery.{at_most}
 use Rattle.row.specs.Row.{entry}
 use Rattle.row.specs.declared.Entry as code
 use Rattle.row.specs.declared.Entry.TheVariants.{Update, Commit, Abort}
-use Rattle.walker.specs.declared.Seen.{Seen}
-use Rattle.walker.specs.declared.Seen.TheVariants.{Holds, Malformed, End}
+use Rattle.std.specs.Prelude.{Result, Ok, Err, Some, None}
+use Rattle.std.specs.declared.option.Option.{Option}
+use Rattle.row.specs.declared.Fault as faults
 use Rattle.walker.specs.Walk.{holds, met, next_on, followed, walked_from, walk}
 use Rattle.walker.proofs.Walking.{met-counts, walk_none}
 use Rattle.reasons.specs.declared.Reason.TheVariants.{Written, Restored}
@@ -71,21 +72,27 @@ module _ (m : List ℕ) (h c : ℕ) (head : h ≡ number_at 4 8 m) where
   unfolding walk
   tale_starts t e = let z : still_from h ≡ at_most (number_at 4 4 m) h = omega arith in rw (← head, e, z)
 
-  module _ (n : ℕ) (t all : Told) (rest : all ≡ tale c n (walked_from m (still_from n) n) t) (r : Seen) (e : met r ≡ next_on m n) where
-    pub tale_ends : ((k : ℕ) (w : code.Entry) → r ≡ Holds k w → ⊥) → t ≡ all
+  module _ (n : ℕ) (t all : Told) (rest : all ≡ tale c n (walked_from m (still_from n) n) t) (r : Option (Result (ℕ × code.Entry) faults.Fault)) (e : met r ≡ next_on m n) where
+    tale_ends : ((x : ℕ × code.Entry) → r ≡ Some (Ok x) → ⊥) → t ≡ all
     unfolding walked_from tale
     tale_ends o = sym (rest ∙ ap (λ es. tale c n es t) (none_left (still_from n)))
       where
-        not_held : (s : Seen) → ((k : ℕ) (w : code.Entry) → s ≡ Holds k w → ⊥) → (es : List Entry) → followed (met s) es ≡ []
-        not_held (Holds k w) g es = absurd (g k w refl)
-        not_held Malformed g es = refl
-        not_held End g es = refl
+        not_held : (s : Option (Result (ℕ × code.Entry) faults.Fault)) → ((x : ℕ × code.Entry) → s ≡ Some (Ok x) → ⊥) → (es : List Entry) → followed (met s) es ≡ []
+        not_held (Some (Ok x)) g es = absurd (g x refl)
+        not_held (Some (Err w)) g es = refl
+        not_held None g es = refl
 
         none_left : (left : ℕ) → walked_from m left n ≡ []
         none_left zero = refl
         none_left (suc left) = ap (λ x. followed x (walked_from m left (n + 1))) (sym e) ∙ not_held r o (walked_from m left (n + 1))
 
-    module _ (k : ℕ) (w : code.Entry) (p : r ≡ Holds k w) where
+    pub tale-end : r ≡ None → t ≡ all
+    tale-end p = tale_ends (λ x e. cc)
+
+    pub tale_stopped : (s : Result (ℕ × code.Entry) faults.Fault) (w : faults.Fault) → r ≡ Some s → s ≡ Err w → t ≡ all
+    tale_stopped s w p q = tale_ends (λ x e. cc)
+
+    module _ (k : ℕ) (w : code.Entry) (p : r ≡ Some (Ok (k, w))) where
       held : next_on m n ≡ holds k (entry w)
       held = sym e ∙ ap met p
 

@@ -9,18 +9,18 @@ ghost use Rattle.reasons.specs.Reason.{untold, written, restored, told, tale, wh
 
 use medium::head::head_ok;
 use row::Entry;
-use walker::{Seen, after};
+use walker::after;
 use workspace::first_mark;
 
 // The word that is printed: the table's own value, a committed transaction's, or what an aborted or unfinished one gave back.
-#[derive(Clone, Copy)]
+#[derive(Clone, Copy, Debug, PartialEq, Eq)]
 pub enum Reason {
     Table,
     Written,
     Restored,
 }
 
-// The reason, the number of the entry that decided, and that of its transaction's end; 0 where there is none.
+// The reason, the number of the entry that decided, and that of its transaction's end; 0 where there is none, since 0 is printed then.
 #[derive(Clone, Copy)]
 pub struct Decision {
     pub reason: Reason,
@@ -28,8 +28,8 @@ pub struct Decision {
     pub end: u32,
 }
 
-// What the entries read so far say of a cell: the open transaction's first and last update of it, 0 where it has none, and what the
-// transactions that have ended decide.
+// What the entries read so far say of a cell: the open transaction's first and last update of it, and what the transactions that have ended
+// decide. Both are 0 where it has none, as a cell's `first` is, by whose rule (`first_mark`) the first is set.
 #[derive(Clone, Copy)]
 pub struct Told {
     pub first: u32,
@@ -38,6 +38,7 @@ pub struct Told {
 }
 
 // Before any entry.
+#[tactic(auto, unfolding(crate::specs::Reason::untold))]
 fn begun() -> Told
     ensures { result ≡ untold }
 {
@@ -53,12 +54,12 @@ fn begun() -> Told
 }
 
 // What is decided when a transaction commits with entry n: its last update, where it has one.
+#[tactic(auto, unfolding(crate::specs::Reason::written))]
 fn committed(n: u32, t: Told) -> Decision
     ensures { result ≡ written n t }
 {
     if t.first == 0 {
-        let ended = t.ended;
-        return ended;
+        return t.ended;
     }
     Decision {
         reason: Reason::Written,
@@ -68,12 +69,12 @@ fn committed(n: u32, t: Told) -> Decision
 }
 
 // What is decided when a transaction is undone, by the abort with number n or, for 0, for want of an end: its first update, where it has one.
+#[tactic(auto, unfolding(crate::specs::Reason::restored))]
 fn undone(n: u32, t: Told) -> Decision
     ensures { result ≡ restored n t }
 {
     if t.first == 0 {
-        let ended = t.ended;
-        return ended;
+        return t.ended;
     }
     Decision {
         reason: Reason::Restored,
@@ -83,23 +84,19 @@ fn undone(n: u32, t: Told) -> Decision
 }
 
 // Entry n is read.
+#[tactic(auto, unfolding(crate::specs::Reason::told))]
 fn tell(cell: u32, n: u32, what: Entry, t: Told) -> Told
     ensures { result ≡ told cell n (entry what) t }
 {
     match what {
-        Entry::Update {
-            cell: its,
-            old: _,
-            new: _,
-        } => {
+        Entry::Update { cell: its, .. } => {
             if cell != its {
                 return t;
             }
-            let ended = t.ended;
             Told {
                 first: first_mark(t.first, n),
                 last: n,
-                ended,
+                ..t
             }
         }
         Entry::Commit => Told {
@@ -122,22 +119,21 @@ fn tell_all(medium: &[u8], h: u32, cell: u32) -> Told
 {
     let mut t = begun();
     let mut n = h;
-    loop {
-        let seen = after(medium, n);
-        let Seen::Holds { number, what } = seen else {
+    while let Some(seen) = after(medium, n) {
+        let Ok((number, what)) = seen else {
             return t;
         };
         t = tell(cell, number, what, t);
         n = number;
     }
+    t
 }
 
 // Why a cell of a medium says what it says, by the entries that a walk meets. Goes once over their rows.
 pub fn decide(medium: &[u8], cell: u32) -> Decision
     ensures { result ≡ why cell (number_at 4 8 medium.now) (walk medium.now) }
 {
-    let ok = head_ok(medium);
-    if ok {} else {
+    if !head_ok(medium) {
         return undone(0, begun());
     }
     undone(0, tell_all(medium, number::get4(medium, 8), cell))

@@ -14,8 +14,9 @@ use Rattle.replay.specs.Replay.{last_of}
 use Rattle.values.specs.Values.{end_after}
 use Rattle.row.specs.Row.{entry}
 use Rattle.row.specs.declared.Entry as code
-use Rattle.walker.specs.declared.Seen.{Seen}
-use Rattle.walker.specs.declared.Seen.TheVariants.{Holds, Malformed, End}
+use Rattle.std.specs.Prelude.{Result, Ok, Err, Some, None}
+use Rattle.std.specs.declared.option.Option as code_option
+use Rattle.row.specs.declared.Fault as faults
 use Rattle.walker.specs.Walk.{Met, holds, malformed, end, met, counts, as_read, next_in, next_on}
 use Rattle.walker.proofs.Walking.{counts-below, no_count, next-counts, least, met-counts}
 
@@ -73,7 +74,7 @@ module _ (m : List ℕ) (ok : is_head_ok m ≡ true) where
   by_met n end = end_after m n
 
   none_count : (n : ℕ) → h ≤ n → at_most C h ≤ n - h → next_on m n ≡ end
-  none_count n p q = sym (no_count m n true (sym ok) refl C h refl refl (counts C h n) refl (go (counts C h n) refl))
+  none_count n p q = sym ((no_count m n true (sym ok) refl C h refl refl (counts C h n) refl (go (counts C h n) refl)).0)
     where
       go : (b : Bool) → counts C h n ≡ b → b ≡ false
       go false e = refl
@@ -111,17 +112,17 @@ module _ (m : List ℕ) (ok : is_head_ok m ≡ true) where
   unfolding journal
   last_starts n e = let z : still n ≡ at_most C h = omega (arith, e) in sym (rw (z, e))
 
-  module _ (n : ℕ) (all : Option ℕ) (p : h ≤ n) (rest : all ≡ last_from (still n) n) (s : Seen) (e : met s ≡ next_on m n) where
+  module _ (n : ℕ) (all : Option ℕ) (p : h ≤ n) (rest : all ≡ last_from (still n) n) (s : code_option.Option (Result (ℕ × code.Entry) faults.Fault)) (e : met s ≡ next_on m n) where
     by : all ≡ by_met n (met s)
     by = rest ∙ from_met (still n) n refl p ∙ ap (by_met n) (sym e)
 
-    pub last-malformed : s ≡ Malformed → none ≡ all
-    last-malformed q = sym (by ∙ ap (λ x. by_met n (met x)) q)
+    pub last-malformed : (w : faults.Fault) → s ≡ Some (Err w) → none ≡ all
+    last-malformed w q = sym (by ∙ ap (λ x. by_met n (met x)) q)
 
-    pub last_end : s ≡ End → (u : Option ℕ) → u ≡ end_after m n → u ≡ all
+    pub last_end : s ≡ None → (u : Option ℕ) → u ≡ end_after m n → u ≡ all
     last_end q u f = f ∙ sym (by ∙ ap (λ x. by_met n (met x)) q)
 
-    module _ (k : ℕ) (w : code.Entry) (q : s ≡ Holds k w) where
+    module _ (k : ℕ) (w : code.Entry) (q : s ≡ Some (Ok (k, w))) where
       pub last_again : all ≡ last_from (still k) k
       last_again = by ∙ ap (λ x. by_met n (met x)) q
 

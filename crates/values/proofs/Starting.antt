@@ -4,7 +4,6 @@ use mathlib.Core.Path.{◌≡◌, refl, sym, ap, ◌∙◌}
 use mathlib.Core.Bool.{Bool, true, false, false≢true}
 use mathlib.Core.List.{List}
 use mathlib.Core.Option.{none, some}
-use native.Mathlib.Omega.{arith}
 use borrow.Author.Tests.{eq-eqb}
 use lib.ListN.{length, replicate, length-replicate}
 use Rattle.scope.specs.Bytes.{number_at}
@@ -15,20 +14,18 @@ use Rattle.scope.specs.Refusals.{lent_start, is_none, tests, refusal}
 use Rattle.scope.specs.Calls.{act}
 use Rattle.scope.proofs.Told.{is_fault}
 use Rattle.scope.proofs.Named.{journal_judged}
-use Rattle.row.specs.declared.Fault.TheVariants.{None}
 use Rattle.state.specs.Lent.{stateless, left, lent_to}
-use Rattle.state.specs.declared.Phase.TheVariants.{Recovering}
 use Rattle.journal.specs.Entries.{entry_in}
 use Rattle.replay.specs.Replay.{last_of, replay_from, replayed}
-use Rattle.replay.specs.declared.scan.Counted.TheVariants as counts
 use Rattle.replay.proofs.Replaying.{last_some, last_none}
-use Rattle.recovery.specs.declared.Started.{Started}
 use Rattle.recovery.proofs.Recovering.{Fit, start_upto, start_read, start_done}
 use Rattle.recovered.specs.Recovered.{started, head_number}
 use Rattle.recovered.proofs.Settled.{start_none, head-number}
+use Rattle.std.specs.Prelude.{Result, Ok, Err, Some, None}
+use Rattle.std.specs.declared.option.Option as code
+use Rattle.row.specs.declared.Fault as faults
 use Rattle.values.specs.Values.{values_of, Values, upto}
-use Rattle.values.specs.declared.Ended.{Ended}
-use Rattle.values.specs.declared.Ended.TheVariants.{Upto, Malformed}
+use Rattle.values.specs.declared.Unread.TheVariants.{Head, Row}
 
 module _ (m : List ℕ) (t : Bool) (e : t ≡ is_head_ok m) where
   abbrev N : ℕ
@@ -43,10 +40,10 @@ module _ (m : List ℕ) (t : Bool) (e : t ≡ is_head_ok m) where
   abbrev ws : List ℕ
   ws = replicate (32 * C) 0
 
-  pub values_headless : t ≡ false → (current : List ℕ) → Values m 1 current
+  pub values_headless : t ≡ false → (current : List ℕ) → Values m (Err Head) current
   unfolding started
   values_headless p current =
-      record { answer = sym (ap (λ o. o.answer) (start_none m zs zs zs ws (sym e ∙ p))); done = λ q. absurd (omega arith) }
+      record { answer = sym (ap (λ o. o.answer) (start_none m zs zs zs ws (sym e ∙ p))); done = λ q. absurd (cc) }
 
   module _ (p : t ≡ true) where
     -- zeros for each cell are as many as the head says
@@ -57,14 +54,14 @@ module _ (m : List ℕ) (t : Bool) (e : t ≡ is_head_ok m) where
     unfolding lent_start stateless
     fit = sym (rw (sym e ∙ p, length-replicate {A = ℕ} N 0, length-replicate {A = ℕ} (32 * C) 0, eq-eqb N N refl, eq-eqb (32 * C) (32 * C) refl))
 
-    module _ (n c h : ℕ) (qn : n ≡ N) (qc : c ≡ C) (qh : h ≡ number_at 4 8 m) (u : Ended) (qu : upto u ≡ last_of h (journal N C h m)) where
-      pub values-malformed : u ≡ Malformed → (current : List ℕ) → Values m 2 current
+    module _ (n c h : ℕ) (qn : n ≡ N) (qc : c ≡ C) (qh : h ≡ number_at 4 8 m) (u : code.Option ℕ) (qu : upto u ≡ last_of h (journal N C h m)) where
+      pub values-malformed : u ≡ None → (current : List ℕ) → Values m (Err Row) current
       unfolding started act refusal tests stateless
       values-malformed g current =
           let z : journal N C (number_at 4 8 m) m ≡ none = ap (λ x. journal N C x m) (sym qh) ∙ last_none m N C h (sym qu ∙ ap upto g) in
-          record { answer = simp (← fit, z); done = λ q. absurd (omega arith) }
+          record { answer = simp (← fit, z); done = λ q. absurd (cc) }
 
-      module _ (x : ℕ) (g : u ≡ Upto x) where
+      module _ (x : ℕ) (g : u ≡ Some x) where
         -- what a scan answers where each row reads
         scanned : (some x ≡ last_of h (journal n c h m)) × (faultless ≡ journal_fault n c h m)
         scanned =
@@ -77,19 +74,18 @@ module _ (m : List ℕ) (t : Bool) (e : t ≡ is_head_ok m) where
             go (fault y k) p = absurd (false≢true (sym p))
 
         pub values-upto : h < 4294967296 → h ≤ x
-        values-upto f = start_upto m zs zs zs ws true fit refl n c h qn qc qh (counts.Upto x) scanned x refl f
+        values-upto f = start_upto m zs zs zs ws true fit refl n c h qn qc qh (Ok x) scanned x refl f
 
-        module _ (size : ℕ) (qz : size ≡ N) (all : Bool) (loaded current : List ℕ) (ql : loaded ≡ table_of size c m) (qr : replayed all current ≡ replay_from (entry_in m 32 c n) (x - h) h h loaded) where
+        module _ (size : ℕ) (qz : size ≡ N) (all : Result Unit faults.Fault) (loaded current : List ℕ) (ql : loaded ≡ table_of size c m) (qr : replayed all current ≡ replay_from (entry_in m 32 c n) (x - h) h h loaded) where
           zeros_loaded : loaded ≡ table_of (length zs) c m
           zeros_loaded = ql ∙ ap (λ k. table_of k c m) (qz ∙ sym (length-replicate {A = ℕ} N 0))
 
           -- behind the walk replay refuses no row
-          pub values_read : all ≡ false → ⊥
-          values_read q = start_read m zs zs zs ws true fit refl n c h qn qc qh (counts.Upto x) scanned x refl all loaded current zeros_loaded qr q
+          pub values_read : (w : faults.Fault) → all ≡ Err w → ⊥
+          values_read w q = start_read m zs zs zs ws true fit refl n c h qn qc qh (Ok x) scanned x refl all loaded current zeros_loaded qr w q
 
-          pub values-done : all ≡ true → Values m 0 current
+          pub values-done : all ≡ Ok tt → Values m (Ok tt) current
           unfolding started values_of left lent_to
           values-done ok =
-              let r : Started = record { number = 0; fault = None; numbers = record { cells = n; slots = c; h = h; f = x; l = x; o = x }; phase = Recovering } in
-              let s = (start_done m zs zs zs ws true fit refl n c h qn qc qh (counts.Upto x) scanned x refl all loaded current zeros_loaded qr (replicate (length zs) 0) (replicate (length zs) 0) refl refl ok r refl).0 in
+              let s = (start_done m zs zs zs ws true fit refl n c h qn qc qh (Ok x) scanned x refl all loaded current zeros_loaded qr (replicate (length zs) 0) (replicate (length zs) 0) refl refl ok).0 in
               record { answer = ap (λ o. o.answer) s; done = λ q. ap (λ o. o.keeper.current) s }

@@ -8,8 +8,8 @@ use Rattle.walker.specs.Walk.{walked_from, walk}
 use Rattle.reasons.specs.Reason.{untold, tale}
 use Rattle.reasons.proofs.tell_all.Given as goal
 
-abbrev pub invariant-loop-number : goal.invariant-loop-number
-invariant-loop-number l = tale l.cell l.h (walk l.medium) untold ≡ tale l.cell l.n (walked_from l.medium (at_most (number_at 4 4 l.medium) l.h - (l.n - l.h)) l.n) l.t
+abbrev pub invariant-loop-seen : goal.invariant-loop-seen
+invariant-loop-seen l = tale l.cell l.h (walk l.medium) untold ≡ tale l.cell l.n (walked_from l.medium (at_most (number_at 4 4 l.medium) l.h - (l.n - l.h)) l.n) l.t
 
-abbrev pub decreases-loop-number : goal.decreases-loop-number
-decreases-loop-number l = at_most (number_at 4 4 l.medium) l.h - (l.n - l.h)
+abbrev pub decreases-loop-seen : goal.decreases-loop-seen
+decreases-loop-seen l = at_most (number_at 4 4 l.medium) l.h - (l.n - l.h)

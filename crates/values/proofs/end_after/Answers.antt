@@ -20,8 +20,8 @@ overflow_add-n c =
     let a = c.args in
     omega (arith, most_fits c.get4-slots.result a.h (omega arith), c.at_most-most.ensures)
 
-pub any_holds-later-requires : goal.any_holds-later-requires
-any_holds-later-requires c =
+pub any_holds-requires : goal.any_holds-requires
+any_holds-requires c =
     let a = c.args in
     let h = head_fits _ _ refl c.requires.1.0 in
     let four = c.get4-slots.ensures in (
@@ -29,12 +29,12 @@ any_holds-later-requires c =
       omega (arith, most_fits c.get4-slots.result a.h (omega arith), c.at_most-most.ensures),
     )
 
-pub returns-then-later : goal.returns-then-later
-returns-then-later c =
+pub returns-then-any_holds : goal.returns-then-any_holds
+returns-then-any_holds c =
     let most = same_most _ _ _ _ c.at_most-most.ensures c.get4-slots.ensures c.requires.0 in
-    end-hole _ _ _ _ _ (omega (arith, most, c.requires.0)) refl (c.any_holds-later.ensures ∙ same_rows _ _ _ _ c.get4-slots.ensures) c.if-later.true
+    end-hole _ _ _ _ _ (omega (arith, most, c.requires.0)) refl (c.any_holds.ensures ∙ same_rows _ _ _ _ c.get4-slots.ensures) c.if-any_holds.true
 
 pub returns : goal.returns
 returns c =
     let most = same_most _ _ _ _ c.at_most-most.ensures c.get4-slots.ensures c.requires.0 in
-    end-last _ _ _ _ _ (omega (arith, most, c.requires.0)) refl (c.any_holds-later.ensures ∙ same_rows _ _ _ _ c.get4-slots.ensures) c.if-later.false
+    end-last _ _ _ _ _ (omega (arith, most, c.requires.0)) refl (c.any_holds.ensures ∙ same_rows _ _ _ _ c.get4-slots.ensures) c.if-any_holds.false
