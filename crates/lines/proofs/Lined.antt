@@ -2,13 +2,14 @@
 use Prim.Native.Nat.{ℕ, zero, suc, ◌+◌, ◌-◌, ◌≤◌, ◌<◌}
 use mathlib.Core.Path.{◌≡◌, refl, sym, ap, subst, ◌∙◌}
 use mathlib.Core.Bool.{Bool, true, false, ◌&&◌}
-use mathlib.Core.List.{List}
+use Rattle.std.proofs.Math.Bool.{cond, not}
+use mathlib.Core.List.{List, [], ◌∷◌}
 use native.Mathlib.Omega.{arith}
 use borrow.Author.Tests.{lt-ltb, le-ltb, eq-eqb, ne_eqb, ltb-true, ltb-false}
 use lib.Dec.{ltb, eqb}
 use lib.ListN.{length, get_or, drop, length-drop}
 use Rattle.scope.specs.Bytes.{pick}
-use Rattle.std.specs.List.{position}
+use Rattle.std.specs.List.{position, position_or_len}
 use Rattle.std.proofs.lemmas.Option.{cond_some}
 use Rattle.std.proofs.Common.{tests}
 use Rattle.std.proofs.lemmas.List.Sums.{prefix_len-le-length}
@@ -16,7 +17,19 @@ use Rattle.std.specs.Prelude.{Option, Some, None}
 use Rattle.lines.specs.declared.Line.{Line}
 use Rattle.lines.specs.Lines.{before, newline, line_end, next_line, line_at, and_next, nth_from, nth_line}
 
--- the search for a newline
+-- the search for a newline: before the end or a newline stands nothing, before another byte's one byte more
+
+pub before_end : before [] ≡ 0
+unfolding before
+before_end = refl
+
+pub before_byte : (b : ℕ) (s : List ℕ) → before (b ∷ s) ≡ pick (eqb b 10) 0 (1 + before s)
+unfolding before
+before_byte b s = go (eqb b 10)
+  where
+    go : (t : Bool) → cond (not t) (1 + position_or_len (λ x. eqb x 10) s) 0 ≡ pick t 0 (1 + position_or_len (λ x. eqb x 10) s)
+    go true = refl
+    go false = refl
 
 before_fits : (s : List ℕ) → before s ≤ length s
 unfolding before
