@@ -1,45 +1,58 @@
 -- What a refusal tells of rows is what the papers' definitions say of the keeper: the waiting rows and the medium's rows are the keeper's, and
 -- beside a number that is neither 2 nor 7 nothing is told.
-use Prim.Native.Nat.{ℕ, zero, suc, ◌+◌, ◌-◌, ◌≤◌}
-use mathlib.Core.Path.{◌≡◌, refl, sym, ap, ◌∙◌, subst}
-use mathlib.Core.Bool.{Bool, true, false, ◌&&◌, ◌||◌, not, false≢true}
-use mathlib.Core.List.{List, []}
-use mathlib.Core.Option.{Option}
+use Prim.Native.Nat.{ℕ, zero, suc, ◌+◌, ◌-◌, ◌≤◌, ◌<◌}
+use mathlib.Core.Path.{◌≡◌, refl, sym, ap, ◌∙◌}
+use mathlib.Core.Bool.{Bool, true, false, ◌&&◌, ◌||◌, not, and-false, false≢true}
+use mathlib.Core.List.{List, [], ◌∷◌, ◌++◌}
+use mathlib.Core.Option.{Option, some}
 use native.Mathlib.Nat.{zero-add}
 use native.Mathlib.Omega.{arith}
-use borrow.Author.Tests.{ltb-false, ne_eqb}
+use borrow.Author.Tests.{lt-ltb, le-ltb, ne_eqb}
 use lib.Dec.{eqb, ltb}
+use Rattle.std.specs.Prelude.{Result, Ok, Err, IsErrAnd}
 use Rattle.scope.specs.Bytes.{pick}
-use Rattle.scope.specs.Row.{Entry, is_entry, is_update, Reason, Fault, faultless, fault, fault_at, lowest_fault, fault_entry}
-use Rattle.scope.specs.Keeper.{Keeper, is_run, waiting_row, medium_row}
+use Rattle.scope.specs.Row.{Entry, is_entry, is_update, Reason, Fault, faultless, fault, fault_at, lowest_fault}
+use Rattle.scope.specs.Keeper.{Keeper, is_run, sound, waiting_row, medium_row}
 use Rattle.scope.specs.Recovery.{all_updates}
-use Rattle.scope.specs.Refusals.{Call, Begin, Commit, Abort, Force, Cut, not_updates, not_entries, refusal, open_fault, waiting_fault, bad_row, told}
-use Rattle.scope.proofs.Told.{is_fault, updates_judged, rows_judged, told_nothing, told_7}
-use Rattle.row.specs.Row.{fault_of}
+use Rattle.scope.specs.Refusals.{Call, Begin, Commit, Abort, Force, Cut, lent, not_updates, not_entries, tests, first_no, refusal, open_fault, waiting_fault, bad_row, told}
+use Rattle.scope.proofs.Refusals.{Numbered, tests-numbered}
+use Rattle.scope.proofs.Told.{is_fault, updates_judged, rows_judged}
+use Rattle.row.specs.Row.{fault_in}
 use Rattle.row.specs.declared.Fault as faults
-use Rattle.row.specs.declared.Fault.TheVariants.{None}
 use Rattle.state.specs.State.{phase_of, state_of}
 use Rattle.state.specs.declared.Numbers.{Numbers}
 use Rattle.state.specs.declared.Phase as code
 use Rattle.state.specs.Lent.{lent_to}
+use Rattle.answer.specs.Answer.{number_of, told_with}
+use Rattle.answer.specs.declared.Refusal.{Refusal}
+use Rattle.answer.specs.declared.Refusal.TheVariants.{BadRow, NotACut}
+use Rattle.answer.proofs.Refusals.{number-above}
 use Rattle.journal.specs.Entries.{entry_in, wrong_in}
 use Rattle.workspace.specs.Values.{wrong_update_in, wrong_due}
+use Rattle.workspace.specs.declared.Due.TheVariants.{Entries, Updates}
 use Rattle.workspace.proofs.Alike.{waiting_wrong, waiting_unread}
-use Rattle.workspace.proofs.Judging.{none_lowest, named_lowest}
+use Rattle.refusal.specs.Judges.{Judges, Asks, Tells, row_no, ready_tests, room_tests}
 use Rattle.refusal.specs.Rows.{open_fault_in, moved_no, moved_fault}
-use Rattle.refusal.specs.declared.Refusal.{Refusal}
+use Rattle.refusal.proofs.Asking.{early, late, handed-on, go_on, judged, stopped, ended, holds, none_holds}
+use Rattle.refusal.proofs.Tables.{force_tests, range_tests, moved_tests, dirty_tests, begin_table, force_table, cut_table}
 
--- beside which number
+-- rows that are judged last
 
-abbrev Said : Call → Keeper → Refusal → Type 0
-Said a k r = (r.number ≡ refusal a k) × (fault_of r.fault ≡ told a k)
+row_number : (w : Fault) → row_no w ≡ pick (is_fault w) 7 0
+row_number faultless = refl
+row_number (fault x n) = refl
 
-module _ (a : Call) (k : Keeper) (r : Refusal) where
-  pub said : (n : ℕ) → r ≡ record { number = n; fault = None } → n ≡ refusal a k → (n ≡ 2 → ⊥) → (n ≡ 7 → ⊥) → (r.number ≡ refusal a k) × (fault_of r.fault ≡ told a k)
-  said n e q h i = subst (Said a k) (sym e) (q, told_nothing a k n q h i)
-
-  pub said_7 : (f : faults.Fault) → r ≡ record { number = 7; fault = f } → 7 ≡ refusal a k → fault_of f ≡ bad_row a k → (r.number ≡ refusal a k) × (fault_of r.fault ≡ told a k)
-  said_7 f e q b = subst (Said a k) (sym e) (q, b ∙ told_7 a k 7 q refl)
+module _ {S T : Type 0} (a : Call) (k : Keeper) (xs : List (Bool × ℕ)) (b : Bool) (e : (xs ++ (b, 7) ∷ []) ≡ tests a k) where
+  pub told_last : (v : S) (r : Result T Refusal) (w : Fault) → Numbered xs → Asks {T = S} (Ok v) xs → Tells r w → is_fault w ≡ b → (true ≡ is_fault w → w ≡ bad_row a k) → Judges r a k
+  unfolding refusal told
+  told_last v r w n s t q h =
+      let z : row_no w ≡ refusal a k =
+      row_number w ∙ ap (λ c. pick c 7 0) q ∙ late xs ((b, 7) ∷ []) n (sym s.number) ∙ ap first_no e in
+      record { number = t.number ∙ z; fault = t.fault ∙ go w h ∙ ap (λ m. pick (eqb m 2 || eqb m 7) (bad_row a k) faultless) z }
+    where
+      go : (w : Fault) → (true ≡ is_fault w → w ≡ bad_row a k) → w ≡ pick (eqb (row_no w) 2 || eqb (row_no w) 7) (bad_row a k) faultless
+      go faultless g = refl
+      go (fault x m) g = g refl
 
 -- the open transaction's rows
 
@@ -60,9 +73,9 @@ module _ (n : Numbers) (p : code.Phase) (medium current first last waiting : Lis
       go zero e = refl
       go (suc c) e = let z : n.o + suc c ≡ n.l = omega arith in ap (λ m. all_updates (suc c) m k) z
 
-  judged : is_fault (open_fault k) ≡ not (all_updates (n.l - n.o) n.l k)
+  judges : is_fault (open_fault k) ≡ not (all_updates (n.l - n.o) n.l k)
   unfolding open_fault lent_to state_of k
-  judged = updates_judged k (n.l - n.o) n.o ∙ ap not up_to
+  judges = updates_judged k (n.l - n.o) n.o ∙ ap not up_to
 
   pub found_bad : is_fault (open_fault_in n p waiting) ≡ not_updates (lent_to n p medium current first last waiting)
   unfolding open_fault_in not_updates lent_to state_of k
@@ -70,95 +83,82 @@ module _ (n : Numbers) (p : code.Phase) (medium current first last waiting : Lis
     where
       go : (b : Bool) → is_fault (pick b (lowest_fault (wrong_update_in waiting n.slots n.cells) (n.l - n.o) n.o) faultless)
           ≡ (b && not (all_updates (n.l - n.o) n.l k))
-      go true = ap is_fault in_keeper ∙ judged
+      go true = ap is_fault in_keeper ∙ judges
       go false = refl
 
-  -- the fault of the row that the search answers
-  module _ (m : ℕ) (e : m ≡ fault_entry (open_fault_in n p waiting)) (h : m ≡ 0 → ⊥)
-      (w : Fault) (f : w ≡ fault_at m (wrong_due true waiting n.slots n.cells m) faultless) where
-    in-run : w ≡ open_fault k
-    unfolding open_fault_in wrong_due
-    in-run = go (is_run (phase_of p)) e
-      where
-        go : (b : Bool) → m ≡ fault_entry (pick b (lowest_fault (wrong_update_in waiting n.slots n.cells) (n.l - n.o) n.o) faultless) → w ≡ open_fault k
-        go true q = f ∙ named_lowest (wrong_update_in waiting n.slots n.cells) (n.l - n.o) n.o m q h ∙ in_keeper
-        go false q = absurd (h q)
-
-    pub abort_names : w ≡ bad_row Abort (lent_to n p medium current first last waiting)
-    unfolding bad_row k
-    abort_names = in-run
-
-    pub begin_names : w ≡ bad_row Begin (lent_to n p medium current first last waiting)
-    unfolding bad_row k
-    begin_names = in-run
-
--- whether there is such a row
-module _ (n : Numbers) (p : code.Phase) (waiting : List ℕ) (m : ℕ) (e : m ≡ fault_entry (open_fault_in n p waiting)) where
-  pub none_found : m ≡ 0 → false ≡ is_fault (open_fault_in n p waiting)
-  unfolding open_fault_in
-  none_found z = go (is_run (phase_of p)) e
+  pub abort_names : true ≡ is_fault (open_fault_in n p waiting) → open_fault_in n p waiting ≡ bad_row Abort (lent_to n p medium current first last waiting)
+  unfolding open_fault_in bad_row k
+  abort_names = go (is_run (phase_of p))
     where
-      go : (b : Bool) → m ≡ fault_entry (pick b (lowest_fault (wrong_update_in waiting n.slots n.cells) (n.l - n.o) n.o) faultless)
-          → false ≡ is_fault (pick b (lowest_fault (wrong_update_in waiting n.slots n.cells) (n.l - n.o) n.o) faultless)
-      go true q = ap is_fault (none_lowest (wrong_update_in waiting n.slots n.cells) (n.l - n.o) n.o m q z)
-      go false q = refl
+      go : (b : Bool) → true ≡ is_fault (pick b (lowest_fault (wrong_update_in waiting n.slots n.cells) (n.l - n.o) n.o) faultless)
+          → pick b (lowest_fault (wrong_update_in waiting n.slots n.cells) (n.l - n.o) n.o) faultless ≡ open_fault k
+      go true h = in_keeper
+      go false h = absurd (false≢true (sym h))
 
-  pub one_found : (m ≡ 0 → ⊥) → true ≡ is_fault (open_fault_in n p waiting)
-  one_found h = go (open_fault_in n p waiting) e
-    where
-      go : (f : Fault) → m ≡ fault_entry f → true ≡ is_fault f
-      go faultless q = absurd (h q)
-      go (fault x i) q = refl
+  -- begin, after abort
 
-module _ (n : Numbers) (p : code.Phase) (waiting : List ℕ) (b : Bool) (e : b ≡ is_run (phase_of p)) where
-  pub open_none : b ≡ false → 0 ≡ fault_entry (open_fault_in n p waiting)
-  unfolding open_fault_in
-  open_none z = simp (← e, z)
+  module _ {S T : Type 0} where
+    pub begin_stopped : (x : Refusal) (r : Result T Refusal) → IsErrAnd r (λ y. y ≡ x) → Judges {T = S} (Err x) Abort (lent_to n p medium current first last waiting)
+        → Judges r Begin (lent_to n p medium current first last waiting)
+    unfolding refusal told bad_row k
+    begin_stopped x r i j =
+        let z : refusal Abort k ≡ refusal Begin k =
+        early (tests Abort k) (room_tests n p) (λ z. number-above x (j.number ∙ z)) ∙ ap first_no (begin_table n p medium current first last waiting) in
+        rw (handed-on x r i) (record { number = j.number ∙ z; fault = j.fault ∙ ap (λ m. pick (eqb m 2 || eqb m 7) (open_fault k) faultless) z })
 
-  pub open_run : (m : ℕ) → b ≡ true → m ≡ fault_entry (lowest_fault (wrong_due true waiting n.slots n.cells) (n.l - n.o) n.o) → m ≡ fault_entry (open_fault_in n p waiting)
-  unfolding open_fault_in wrong_due
-  open_run m z q = q ∙ simp (← e, z)
+    pub begin_ended : (v : S) (r : Result T Refusal) → Judges {T = S} (Ok v) Abort (lent_to n p medium current first last waiting) → Asks r (room_tests n p)
+        → Judges r Begin (lent_to n p medium current first last waiting)
+    unfolding refusal k
+    begin_ended v r j s =
+        judged Begin k r
+        (s.number ∙ late (tests Abort k) (room_tests n p) (tests-numbered Abort k) (sym j.number) ∙ ap first_no (begin_table n p medium current first last waiting))
+        s.fault
+
+pub open_none : (n : Numbers) (p : code.Phase) (waiting : List ℕ) → is_run (phase_of p) ≡ false → faultless ≡ open_fault_in n p waiting
+unfolding open_fault_in
+open_none n p waiting z = simp z
+
+pub open_run : (n : Numbers) (p : code.Phase) (waiting : List ℕ) → is_run (phase_of p) ≡ true
+    → lowest_fault (wrong_due Updates waiting n.slots n.cells) (n.l - n.o) n.o ≡ open_fault_in n p waiting
+unfolding open_fault_in wrong_due
+open_run n p waiting z = simp z
 
 -- the rows that commit would store
 
-module _ (n : Numbers) (p : code.Phase) (medium waiting : List ℕ) (m : ℕ) (e : m ≡ fault_entry (lowest_fault (wrong_due false waiting n.slots n.cells) (n.l - n.f) n.f)) where
-  commits : Keeper
-  commits = lent_to n p medium [] [] [] waiting
-
-  lowest : Fault
-  lowest = lowest_fault (wrong_due false waiting n.slots n.cells) (n.l - n.f) n.f
-
-  to_store : lowest ≡ waiting_fault commits
-  unfolding waiting_fault wrong_due lent_to state_of commits lowest
+module _ (n : Numbers) (p : code.Phase) (medium waiting : List ℕ) where
+  to_store : lowest_fault (wrong_due Entries waiting n.slots n.cells) (n.l - n.f) n.f ≡ waiting_fault (lent_to n p medium [] [] [] waiting)
+  unfolding waiting_fault wrong_due lent_to state_of
   to_store = sym (λ i. lowest_fault (λ j. waiting_unread (lent_to n p medium [] [] [] waiting) j i) (n.l - n.f) n.f)
 
-  to_judge : is_fault lowest ≡ not_entries (lent_to n p medium [] [] [] waiting)
-  unfolding not_entries waiting_fault lent_to state_of commits
+  pub to_judge : is_fault (lowest_fault (wrong_due Entries waiting n.slots n.cells) (n.l - n.f) n.f) ≡ not_entries (lent_to n p medium [] [] [] waiting)
+  unfolding not_entries waiting_fault lent_to state_of
   to_judge = ap is_fault to_store ∙ rows_judged (lent_to n p medium [] [] [] waiting) (n.l - n.f) n.f
 
-  pub none_unread : m ≡ 0 → false ≡ not_entries (lent_to n p medium [] [] [] waiting)
-  unfolding lowest
-  none_unread z = ap is_fault (none_lowest (wrong_due false waiting n.slots n.cells) (n.l - n.f) n.f m e z) ∙ to_judge
-
-  module _ (h : m ≡ 0 → ⊥) where
-    pub one_unread : true ≡ not_entries (lent_to n p medium [] [] [] waiting)
-    unfolding lowest
-    one_unread = go lowest e ∙ to_judge
-      where
-        go : (f : Fault) → m ≡ fault_entry f → true ≡ is_fault f
-        go faultless q = absurd (h q)
-        go (fault x i) q = refl
-
-    pub commit_names : (w : Fault) → w ≡ fault_at m (wrong_due false waiting n.slots n.cells m) faultless → w ≡ bad_row Commit (lent_to n p medium [] [] [] waiting)
-    unfolding bad_row lowest commits
-    commit_names w f = f ∙ named_lowest (wrong_due false waiting n.slots n.cells) (n.l - n.f) n.f m e h ∙ to_store
+  pub commit_names : lowest_fault (wrong_due Entries waiting n.slots n.cells) (n.l - n.f) n.f ≡ bad_row Commit (lent_to n p medium [] [] [] waiting)
+  unfolding bad_row
+  commit_names = to_store
 
 -- force's row
 
-pub force_names : (n : Numbers) (p : code.Phase) (m waiting : List ℕ) (w : Fault) (o : Option Reason) → o ≡ wrong_in waiting 0 n.slots n.cells (n.f + 1)
-    → w ≡ fault_at (n.f + 1) o faultless → w ≡ bad_row Force (lent_to n p m [] [] [] waiting)
+module _ {T : Type 0} (n : Numbers) (waiting : List ℕ) (v : T) where
+  pub force_none : n.l ≤ n.f → Asks (Ok v) (force_tests n waiting)
+  force_none h = none_holds _ 7 v (simp (le-ltb n.f n.l h))
+
+  pub force_entry : true ≡ is_entry (entry_in waiting 0 n.slots n.cells (n.f + 1)) → Asks (Ok v) (force_tests n waiting)
+  force_entry i = none_holds _ 7 v (simp (← i, and-false))
+
+pub force_bad : {S T : Type 0} (n : Numbers) (p : code.Phase) (m waiting : List ℕ) (fit : Bool) (v : S) (w : faults.Fault)
+    → fit ≡ (sound (state_of n p) && lent Commit (lent_to n p m [] [] [] waiting)) → Asks {T = S} (Ok v) (ready_tests fit p) → n.f < n.l
+    → false ≡ is_entry (entry_in waiting 0 n.slots n.cells (n.f + 1)) → fault_in w ≡ bad_row Force (lent_to n p m [] [] [] waiting)
+    → Judges {T = T} (Err (BadRow w)) Force (lent_to n p m [] [] [] waiting)
+force_bad n p m waiting fit v w e s h i q =
+    told_last Force _ (ready_tests fit p) _ (force_table n p m [] [] [] waiting fit e) v (Err (BadRow w)) (fault_in w) (omega arith) s
+    (record { number = refl; fault = refl }) (simp (lt-ltb n.f n.l h, ← i)) (λ t. q)
+
+pub force_names : (n : Numbers) (p : code.Phase) (m waiting : List ℕ) (o : Option Reason) → o ≡ wrong_in waiting 0 n.slots n.cells (n.f + 1)
+    → fault_at (n.f + 1) o faultless ≡ bad_row Force (lent_to n p m [] [] [] waiting)
 unfolding bad_row lent_to state_of wrong_in waiting_row
-force_names n p m waiting w o e q = q ∙ rw e (rw zero-add)
+force_names n p m waiting o e = rw e (rw zero-add)
 
 -- cut's row
 
@@ -172,35 +172,56 @@ module _ (h p : ℕ) (e : Option Entry) where
       go false true u = omega arith
       go false false u = omega arith
 
-pub cut-says : (n : Numbers) (p : code.Phase) (q : ℕ) (m first : List ℕ) (r : Refusal)
-    → (r.number ≡ moved_no n.h q (entry_in m 32 n.slots n.cells q)) × (fault_of r.fault ≡ moved_fault r.number q (wrong_in m 32 n.slots n.cells q))
-    → r.number ≡ refusal (Cut q) (lent_to n p m [] first [] [])
-    → (r.number ≡ refusal (Cut q) (lent_to n p m [] first [] [])) × (fault_of r.fault ≡ told (Cut q) (lent_to n p m [] first [] []))
+pub cut-says : (n : Numbers) (p : code.Phase) (q : ℕ) (m first : List ℕ) (x : Refusal)
+    → number_of x ≡ moved_no n.h q (entry_in m 32 n.slots n.cells q) → told_with x ≡ moved_fault (number_of x) q (wrong_in m 32 n.slots n.cells q)
+    → number_of x ≡ refusal (Cut q) (lent_to n p m [] first [] [])
+    → told_with x ≡ told (Cut q) (lent_to n p m [] first [] [])
 unfolding told bad_row moved_fault lent_to state_of wrong_in medium_row
-cut-says n p q m first r e z =
-    (z, e.1 ∙ go r.number (moved_7_9 n.h q _ r.number e.0) ∙ ap (λ x. pick (eqb x 2 || eqb x 7) (fault_at q (wrong_in m 32 n.slots n.cells q) faultless) faultless) z)
+cut-says n p q m first x e f z =
+    f ∙ go (number_of x) (moved_7_9 n.h q _ (number_of x) e) ∙ ap (λ x. pick (eqb x 2 || eqb x 7) (fault_at q (wrong_in m 32 n.slots n.cells q) faultless) faultless) z
   where
     go : (x : ℕ) → (x ≡ 2 → ⊥) → pick (eqb x 7) (fault_at q (wrong_in m 32 n.slots n.cells q) faultless) faultless
         ≡ pick (eqb x 2 || eqb x 7) (fault_at q (wrong_in m 32 n.slots n.cells q) faultless) faultless
     go x h = simp (ne_eqb x 2 h)
 
--- what the row of p says of itself
-module _ (h p : ℕ) (e : Option Entry) (o : Option Reason) (r : Refusal) where
-  pub row-says : (n : ℕ) → r ≡ record { number = n; fault = None } → n ≡ moved_no h p e → (n ≡ 7 → ⊥) → (r.number ≡ moved_no h p e) × (fault_of r.fault ≡ moved_fault r.number p o)
-  unfolding moved_fault
-  row-says n q z i =
-      subst (λ r. (r.number ≡ moved_no h p e) × (fault_of r.fault ≡ moved_fault r.number p o)) (sym q) (z, simp (ne_eqb n 7 i))
+module _ {S : Type 0} (n : Numbers) (p : code.Phase) (q : ℕ) (m first : List ℕ) (fit : Bool)
+    (e : fit ≡ (sound (state_of n p) && lent (Cut 0) (lent_to n p m [] first [] []))) (v : S) (s : Asks {T = S} (Ok v) (ready_tests fit p)) where
+  table : ((ready_tests fit p ++ range_tests n q) ++ moved_tests n q m ++ dirty_tests q first) ≡ tests (Cut q) (lent_to n p m [] first [] [])
+  table = cut_table n p m [] first [] [] fit q e
 
-  pub row_bad : (f : faults.Fault) (x : Option Reason) → r ≡ record { number = 7; fault = f } → 7 ≡ moved_no h p e → x ≡ o → fault_of f ≡ fault_at p x faultless
-      → (r.number ≡ moved_no h p e) × (fault_of r.fault ≡ moved_fault r.number p o)
-  unfolding moved_fault
-  row_bad f x q z s t =
-      subst (λ r. (r.number ≡ moved_no h p e) × (fault_of r.fault ≡ moved_fault r.number p o)) (sym q) (z, t ∙ ap (λ y. fault_at p y faultless) s)
+  pub cut_out : {T : Type 0} → (ltb q n.h || (ltb n.f q || ltb n.o q)) ≡ true → Judges {T = T} (Err NotACut) (Cut q) (lent_to n p m [] first [] [])
+  cut_out b =
+      let r : Result S Refusal = Err NotACut in
+      stopped (Cut q) _ (ready_tests fit p ++ range_tests n q) (moved_tests n q m ++ dirty_tests q first) table NotACut (Err NotACut) refl
+      (go_on (ready_tests fit p) (range_tests n q) v r (omega arith) s (holds _ 9 NotACut b refl refl))
 
--- a cut that is in range
-pub not_below : (h p : ℕ) (b o : Bool) → o ≡ (ltb p h || b) → o ≡ false → h ≤ p
-not_below h p b o e z = go (ltb p h) refl (sym e ∙ z)
-  where
-    go : (t : Bool) → ltb p h ≡ t → (t || b) ≡ false → h ≤ p
-    go true u v = absurd (false≢true (sym v))
-    go false u v = ltb-false p h u
+  module _ (b : (ltb q n.h || (ltb n.f q || ltb n.o q)) ≡ false) where
+    in_range : Asks {T = S} (Ok v) (ready_tests fit p ++ range_tests n q)
+    in_range = go_on (ready_tests fit p) (range_tests n q) v (Ok v) (omega arith) s (none_holds _ 9 v b)
+
+    -- the row of p refuses
+    pub cut_moved : {T : Type 0} (x : Refusal) (r : Result T Refusal) → IsErrAnd r (λ y. y ≡ x) → number_of x ≡ moved_no n.h q (entry_in m 32 n.slots n.cells q)
+        → told_with x ≡ moved_fault (number_of x) q (wrong_in m 32 n.slots n.cells q) → Judges r (Cut q) (lent_to n p m [] first [] [])
+    unfolding moved_no refusal
+    cut_moved x r i f g =
+        let z : number_of x ≡ refusal (Cut q) (lent_to n p m [] first [] []) =
+        f ∙ early (moved_tests n q m) (dirty_tests q first) (λ z. number-above x (f ∙ z))
+        ∙ late (ready_tests fit p ++ range_tests n q) (moved_tests n q m ++ dirty_tests q first) (omega arith) (sym in_range.number) ∙ ap first_no table in
+        rw (handed-on x r i) (record { number = z; fault = cut-says n p q m first x f g z })
+
+    -- it doesn't, and what is left is whether a cell is dirty
+    pub cut_last : {T : Type 0} (r : Result T Refusal) → 0 ≡ moved_no n.h q (entry_in m 32 n.slots n.cells q) → Asks r (dirty_tests q first)
+        → Judges r (Cut q) (lent_to n p m [] first [] [])
+    unfolding moved_no
+    cut_last r f t =
+        ended (Cut q) _ ((ready_tests fit p ++ range_tests n q) ++ moved_tests n q m) (dirty_tests q first) table v r (omega arith)
+        (go_on (ready_tests fit p ++ range_tests n q) (moved_tests n q m) v (Ok v) (omega arith) in_range (record { number = f; fault = refl })) t
+
+-- beside a number that isn't 7, nothing is told of the row of p
+pub moved_silent : (number p : ℕ) (o : Option Reason) → (number ≡ 7 → ⊥) → faultless ≡ moved_fault number p o
+unfolding moved_fault
+moved_silent number p o i = simp (ne_eqb number 7 i)
+
+pub moved_told : (p : ℕ) (x : Reason) (o : Option Reason) → some x ≡ o → fault x p ≡ moved_fault 7 p o
+unfolding moved_fault
+moved_told p x o e = ap (λ y. fault_at p y faultless) e

@@ -4,42 +4,54 @@ use mathlib.Core.Path.{◌≡◌, sym, ◌∙◌}
 use mathlib.Core.Bool.{Bool, true, ◌&&◌}
 use mathlib.Core.List.{List}
 use native.Mathlib.Omega.{arith}
-use borrow.Author.Tests.{eqb-true}
-use lib.Dec.{eqb}
+use borrow.Author.Tests.{eqb-true, leb-false}
 use lib.ListN.{length}
-use Rattle.scope.specs.Keeper.{medium_length, sound}
+use Rattle.std.specs.Prelude.{Ok}
+use Rattle.scope.specs.Keeper.{sound}
+use Rattle.scope.specs.Refusals.{Call, Abort, Commit, Cut, WriteBack, lent}
 use Rattle.state.specs.State.{state_of}
 use Rattle.state.specs.declared.Numbers.{Numbers}
 use Rattle.state.specs.declared.Phase as code
 use Rattle.state.proofs.Facts.{and_left, and_right, Sound, sound_facts, medium_fits}
+use Rattle.state.specs.Lent.{lent_to}
 use Rattle.journal.specs.Entries.{Rows}
-
-module _ (n : Numbers) (p : code.Phase) (s t f : Bool) (ss : s ≡ sound (state_of n p)) (et : t ≡ (s && f)) (fit : t ≡ true) where
-  pub is_sound : Sound n p
-  is_sound = sound_facts n p (sym ss ∙ and_left s f (sym et ∙ fit))
-
-  pub is_lent : f ≡ true
-  is_lent = and_right s f (sym et ∙ fit)
+use Rattle.refusal.specs.Judges.{Asks, cell_tests}
+use Rattle.refusal.proofs.Asking.{passed}
 
 ruleset tests = (and_left, and_right, eqb-true)
 
-pub rows_fit : (n : Numbers) (p : code.Phase) (rows : List ℕ) (base x : ℕ) → Sound n p → base + 32 * n.slots ≤ length rows → 0 < x → Rows rows base n.slots x
+pub in_cells : {S : Type 0} (n : Numbers) (c : ℕ) (v : S) → Asks {T = S} (Ok v) (cell_tests n c) → c < n.cells
+in_cells n c v s = leb-false n.cells c (passed (cell_tests n c) v (omega arith) s).0
+
+rows_fit : (n : Numbers) (p : code.Phase) (rows : List ℕ) (base x : ℕ) → Sound n p → base + 32 * n.slots ≤ length rows → 0 < x → Rows rows base n.slots x
 rows_fit n p rows base x s h i = omega arith
 
--- the waiting rows that begin and abort judge
-pub waiting_fits : (n : Numbers) (p : code.Phase) (current first last waiting : List ℕ) (d : Bool)
-    → d ≡ (eqb (length current) n.cells && (eqb (length first) n.cells && (eqb (length last) n.cells && eqb (length waiting) (32 * n.slots)))) → d ≡ true
-    → Sound n p → (x : ℕ) → 0 < x → Rows waiting 0 n.slots x
-waiting_fits n p current first last waiting d e z s x h =
-    let q = sym e ∙ z in let t : length waiting ≡ 32 * n.slots = search tests in rows_fit n p waiting 0 x s (omega arith) h
+module _ (n : Numbers) (p : code.Phase) (medium current first last waiting : List ℕ) (fit : Bool) (t : fit ≡ true) where
+  module _ (a : Call) (e : fit ≡ (sound (state_of n p) && lent a (lent_to n p medium current first last waiting))) where
+    pub is_sound : Sound n p
+    is_sound = sound_facts n p (and_left _ _ (sym e ∙ t))
 
-pub pair_fits : (n : Numbers) (m waiting : List ℕ) (a b f : Bool) → a ≡ eqb (length m) (medium_length n.cells n.slots) → b ≡ eqb (length waiting) (32 * n.slots)
-    → f ≡ (a && b) → f ≡ true → (length m ≡ 32 + 32 * n.slots + 8 * n.cells) × (length waiting ≡ 32 * n.slots)
-pair_fits n m waiting a b f ea eb ef z =
-    (medium_fits n m (sym ea ∙ and_left a b (sym ef ∙ z)), eqb-true _ _ (sym eb ∙ and_right a b (sym ef ∙ z)))
+    is_lent : lent a (lent_to n p medium current first last waiting) ≡ true
+    is_lent = and_right (sound (state_of n p)) _ (sym e ∙ t)
 
-pub back_fits : (cells : ℕ) (first last : List ℕ) (a b c d f g : Bool) → c ≡ eqb (length first) cells → d ≡ eqb (length last) cells → f ≡ (c && d) → g ≡ (b && f)
-    → (i : Bool) → i ≡ (a && g) → i ≡ true → (length first ≡ cells) × (length last ≡ cells)
-back_fits cells first last a b c d f g ec ed ef eg i ei z =
-    let q = sym ef ∙ and_right b f (sym eg ∙ and_right a g (sym ei ∙ z)) in
-    (eqb-true _ _ (sym ec ∙ and_left c d q), eqb-true _ _ (sym ed ∙ and_right c d q))
+  pub workspaces_fit : fit ≡ (sound (state_of n p) && lent Abort (lent_to n p medium current first last waiting)) → (x : ℕ) → 0 < x → Rows waiting 0 n.slots x
+  unfolding lent lent_to state_of
+  workspaces_fit e x h =
+      let q = is_lent Abort e in
+      let l : length waiting ≡ 32 * n.slots = search tests in rows_fit n p waiting 0 x (is_sound Abort e) (omega arith) h
+
+  pub waiting_fits : fit ≡ (sound (state_of n p) && lent Commit (lent_to n p medium current first last waiting)) → (x : ℕ) → 0 < x → Rows waiting 0 n.slots x
+  unfolding lent lent_to state_of
+  waiting_fits e x h =
+      let q = is_lent Commit e in
+      let l : length waiting ≡ 32 * n.slots = search tests in rows_fit n p waiting 0 x (is_sound Commit e) (omega arith) h
+
+  pub medium_rows : fit ≡ (sound (state_of n p) && lent (Cut 0) (lent_to n p medium current first last waiting)) → Rows medium 32 n.slots 1
+  unfolding lent lent_to state_of
+  medium_rows e =
+      let r = is_lent (Cut 0) e in
+      let l = medium_fits n medium (and_left _ _ r) in rows_fit n p medium 32 1 (is_sound (Cut 0) e) (omega arith) (omega arith)
+
+  pub marks_fit : fit ≡ (sound (state_of n p) && lent (WriteBack 0) (lent_to n p medium current first last waiting)) → (length first ≡ n.cells) × (length last ≡ n.cells)
+  unfolding lent lent_to state_of
+  marks_fit e = let q = is_lent (WriteBack 0) e in (search tests, search tests)

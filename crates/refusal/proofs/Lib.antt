@@ -1,3 +1,4 @@
+pub mod Asking
 pub mod Faults
 pub mod Lengths
 pub mod Tables

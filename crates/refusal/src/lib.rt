@@ -1,66 +1,141 @@
-// What each call refuses with, 0 where it is done: the papers' table, each call's tests in their order, one after the other,
-// so that a call leaves at the first that holds. A function here changes nothing and is total: the calls ask it first.
-// Calls that judge rows tell beside 7 what is wrong with the lowest bad one.
+// What each call refuses with: the papers' table, each call's tests in their order, one after the other, so that a call leaves at the first
+// that holds. A function here changes nothing and is total: the calls ask it first. Calls that judge rows tell beside 7 what is wrong
+// with the lowest bad one.
 // Begin, abort and cut leave at a state that is not sound before they look at what they are lent: that is quicker there.
 #![tactic(auto)]
 
-ghost use Rattle.std.specs.Prelude.{◌≡◌, [], ℕ, ◌≤◌};
-ghost use Rattle.scope.specs.Refusals.{Begin, Read, Write, Commit, Abort, Force, WriteBack, Cut, Look, refusal, told};
-ghost use Rattle.scope.specs.Row.{fault_entry};
-ghost use Rattle.row.specs.Row.{fault_of};
+ghost use Rattle.std.specs.Prelude.{◌≡◌, [], ℕ, ◌-◌, ◌&&◌, ◌≤◌};
+ghost use Rattle.scope.specs.Row.{lowest_fault};
+ghost use Rattle.scope.specs.Keeper.{sound};
+ghost use Rattle.scope.specs.Refusals.{Begin, Read, Write, Commit, Abort, Force, WriteBack, Cut, Look, lent};
+ghost use Rattle.answer.specs.Answer.{number_in, told_in};
 ghost use Rattle.journal.specs.Entries.{Rows, entry_in, wrong_in};
+ghost use Rattle.workspace.specs.Values.{wrong_due};
+ghost use Rattle.state.specs.State.{state_of};
 ghost use Rattle.state.specs.Lent.{lent_to};
+ghost use Rattle.refusal.specs.Judges.{Judges, Asks, Tells, ready_tests, run_tests, cell_tests, room_tests};
 ghost use Rattle.refusal.specs.Rows.{open_fault_in, moved_no, moved_fault};
 
+use answer::Refusal;
 use journal::entry_at;
 use medium::layout::index;
-use row::{Entry, Fault, Row, fault_in};
-use state::{Numbers, Phase, both, either, is_idle, is_recovering, is_run, refuse};
-use workspace::{any_first, lowest_bad, row_fault};
+use row::Fault;
+use state::{Numbers, Phase};
+use workspace::{Due, any_first, lowest_fault};
 
-// A call's number, and what it tells of a row.
-#[derive(Clone, Copy)]
-pub struct Refusal {
-    pub number: u32,
-    pub fault: Fault,
+// A sound state, and the medium and the waiting rows as long as its numbers say.
+fn fit_rows(numbers: Numbers, phase: Phase, medium: &[u8], waiting: &[u8]) -> bool
+    ensures { result ≡ (sound (state_of numbers phase) && lent Commit (lent_to numbers phase medium.now [] [] [] waiting.now)) }
+{
+    numbers.sound(phase) && numbers.fits_medium(medium.len()) && numbers.fits_rows(waiting.len())
 }
 
-// A number that no row is the reason of.
-fn plain(number: u32) -> Refusal
-    ensures { result ≡ record { number = number; fault = Fault.None } }
+// A sound state, and the workspaces as long as its numbers say.
+fn fit_workspaces(
+    numbers: Numbers,
+    phase: Phase,
+    current: &[u64],
+    first: &[u32],
+    last: &[u32],
+    waiting: &[u8],
+) -> bool
+    ensures { let k = lent_to numbers phase [] current.now first.now last.now waiting.now in
+        result ≡ (sound (state_of numbers phase) && lent Abort k) }
 {
-    Refusal {
-        number,
-        fault: Fault::None,
-    }
+    numbers.sound(phase)
+        && numbers.fits_workspaces(current.len(), first.len(), last.len(), waiting.len())
 }
 
-// 7: a row is bad.
-fn bad(fault: Fault) -> Refusal
-    ensures { result ≡ record { number = 7; fault = fault } }
+// A sound state, and the medium, current values, `first` and `last` as long as its numbers say.
+fn fit_table(
+    numbers: Numbers,
+    phase: Phase,
+    medium: &[u8],
+    current: &[u64],
+    first: &[u32],
+    last: &[u32],
+) -> bool
+    ensures { let k = lent_to numbers phase medium.now current.now first.now last.now [] in
+        result ≡ (sound (state_of numbers phase) && lent (WriteBack 0) k) }
 {
-    Refusal { number: 7, fault }
+    numbers.sound(phase)
+        && numbers.fits_medium(medium.len())
+        && numbers.fits_cells(current.len())
+        && numbers.fits_cells(first.len())
+        && numbers.fits_cells(last.len())
 }
 
-pub fn read(numbers: Numbers, phase: Phase, cell: u32, current: &[u64]) -> u32
-    ensures { result ≡ refusal (Read cell) (lent_to numbers phase [] current.now [] [] []) }
+// A sound state, and the medium and `first` as long as its numbers say.
+fn fit_first(numbers: Numbers, phase: Phase, medium: &[u8], first: &[u32]) -> bool
+    ensures { result ≡ (sound (state_of numbers phase) && lent (Cut 0) (lent_to numbers phase medium.now [] first.now [] [])) }
 {
-    let fit = both(numbers.sound(phase), numbers.fits_cells(current.len()));
-    if fit {} else {
-        return 1;
+    numbers.sound(phase) && numbers.fits_medium(medium.len()) && numbers.fits_cells(first.len())
+}
+
+// 1, 10: the first tests of every call.
+fn ready(fit: bool, phase: Phase) -> Result<(), Refusal>
+    ensures { Asks result (ready_tests fit phase) }
+{
+    if !fit {
+        return Err(Refusal::Unfit);
     }
-    let recovering = is_recovering(phase);
-    if recovering {
-        return 10;
+    if phase.is_recovering() {
+        return Err(Refusal::WrongPhase);
     }
-    let idle = is_idle(phase);
-    if idle {
-        return 3;
+    Ok(())
+}
+
+// 1, 10, 3.
+fn in_run(fit: bool, phase: Phase) -> Result<(), Refusal>
+    ensures { Asks result (run_tests fit phase) }
+{
+    ready(fit, phase)?;
+    if phase.is_idle() {
+        return Err(Refusal::NoTransaction);
     }
+    Ok(())
+}
+
+// 4.
+fn in_table(numbers: Numbers, cell: u32) -> Result<(), Refusal>
+    ensures { Asks result (cell_tests numbers cell) }
+{
     if numbers.cells <= cell {
-        return 4;
+        return Err(Refusal::NoCell);
     }
-    0
+    Ok(())
+}
+
+// 5, 6.
+fn has_room(numbers: Numbers, phase: Phase) -> Result<(), Refusal>
+    ensures { Asks result (room_tests numbers phase) }
+{
+    if numbers.full(phase) {
+        return Err(Refusal::Full);
+    }
+    if numbers.used_up(phase) {
+        return Err(Refusal::UsedUp);
+    }
+    Ok(())
+}
+
+// 7: a waiting row from + 1, .., l does not hold what is due.
+fn rows_hold(numbers: Numbers, waiting: &[u8], from: u32, due: Due) -> Result<(), Refusal>
+    requires { Rows waiting.now 0 numbers.slots 1 }
+    ensures { Tells result (lowest_fault (wrong_due due waiting.now numbers.slots numbers.cells) (numbers.l - from) from) }
+{
+    match lowest_fault(waiting, numbers.slots, numbers.cells, from, numbers.l, due) {
+        Some(fault) => Err(Refusal::BadRow(fault)),
+        None => Ok(()),
+    }
+}
+
+pub fn read(numbers: Numbers, phase: Phase, cell: u32, current: &[u64]) -> Result<(), Refusal>
+    ensures { Judges result (Read cell) (lent_to numbers phase [] current.now [] [] []) }
+{
+    let fit = numbers.sound(phase) && numbers.fits_cells(current.len());
+    in_run(fit, phase)?;
+    in_table(numbers, cell)
 }
 
 pub fn write(
@@ -71,82 +146,32 @@ pub fn write(
     first: &[u32],
     last: &[u32],
     waiting: &[u8],
-) -> u32
-    ensures { (v : ℕ) → result ≡ refusal (Write cell v) (lent_to numbers phase [] current.now first.now last.now waiting.now) }
+) -> Result<(), Refusal>
+    ensures { (v : ℕ) → Judges result (Write cell v) (lent_to numbers phase [] current.now first.now last.now waiting.now) }
 {
-    let lent = numbers.fits_workspaces(current.len(), first.len(), last.len(), waiting.len());
-    let fit = both(numbers.sound(phase), lent);
-    if fit {} else {
-        return 1;
-    }
-    let recovering = is_recovering(phase);
-    if recovering {
-        return 10;
-    }
-    let idle = is_idle(phase);
-    if idle {
-        return 3;
-    }
-    if numbers.cells <= cell {
-        return 4;
-    }
-    let full = numbers.full(phase);
-    if full {
-        return 5;
-    }
-    let spent = numbers.used_up(phase);
-    if spent {
-        return 6;
-    }
-    0
+    let fit = fit_workspaces(numbers, phase, current, first, last, waiting);
+    in_run(fit, phase)?;
+    in_table(numbers, cell)?;
+    has_room(numbers, phase)
 }
 
-pub fn commit(numbers: Numbers, phase: Phase, medium: &[u8], waiting: &[u8]) -> Refusal
-    ensures { let k = lent_to numbers phase medium.now [] [] [] waiting.now in
-        (result.number ≡ refusal Commit k) × (fault_of result.fault ≡ told Commit k) }
+pub fn commit(numbers: Numbers, phase: Phase, medium: &[u8], waiting: &[u8]) -> Result<(), Refusal>
+    ensures { Judges result Commit (lent_to numbers phase medium.now [] [] [] waiting.now) }
 {
-    let lent = both(
-        numbers.fits_medium(medium.len()),
-        numbers.fits_rows(waiting.len()),
-    );
-    let fit = both(numbers.sound(phase), lent);
-    if fit {} else {
-        return plain(1);
-    }
-    let recovering = is_recovering(phase);
-    if recovering {
-        return plain(10);
-    }
-    let idle = is_idle(phase);
-    if idle {
-        return plain(3);
-    }
-    let slots = numbers.slots;
-    let cells = numbers.cells;
-    let m = lowest_bad(waiting, slots, cells, numbers.f, numbers.l, false);
-    if m != 0 {
-        return bad(row_fault(waiting, slots, cells, m, false));
-    }
-    plain(0)
+    let fit = fit_rows(numbers, phase, medium, waiting);
+    in_run(fit, phase)?;
+    rows_hold(numbers, waiting, numbers.f, Due::Entries)
 }
 
-// In run the lowest waiting row of o+1 to l that isn't that update; else, and where each is, 0.
-fn open_bad(numbers: Numbers, phase: Phase, waiting: &[u8]) -> u32
+// 7: in run a waiting row of o+1 to l isn't that update.
+fn open_rows(numbers: Numbers, phase: Phase, waiting: &[u8]) -> Result<(), Refusal>
     requires { Rows waiting.now 0 numbers.slots 1 }
-    ensures { result ≡ fault_entry (open_fault_in numbers phase waiting.now) }
+    ensures { Tells result (open_fault_in numbers phase waiting.now) }
 {
-    let running = is_run(phase);
-    if running {} else {
-        return 0;
+    if !phase.is_run() {
+        return Ok(());
     }
-    lowest_bad(
-        waiting,
-        numbers.slots,
-        numbers.cells,
-        numbers.o,
-        numbers.l,
-        true,
-    )
+    rows_hold(numbers, waiting, numbers.o, Due::Updates)
 }
 
 pub fn abort(
@@ -156,27 +181,12 @@ pub fn abort(
     first: &[u32],
     last: &[u32],
     waiting: &[u8],
-) -> Refusal
-    ensures { let k = lent_to numbers phase [] current.now first.now last.now waiting.now in
-        (result.number ≡ refusal Abort k) × (fault_of result.fault ≡ told Abort k) }
+) -> Result<(), Refusal>
+    ensures { Judges result Abort (lent_to numbers phase [] current.now first.now last.now waiting.now) }
 {
-    let good = numbers.sound(phase);
-    if good {} else {
-        return plain(1);
-    }
-    let lent = numbers.fits_workspaces(current.len(), first.len(), last.len(), waiting.len());
-    if lent {} else {
-        return plain(1);
-    }
-    let recovering = is_recovering(phase);
-    if recovering {
-        return plain(10);
-    }
-    let m = open_bad(numbers, phase, waiting);
-    if m != 0 {
-        return bad(row_fault(waiting, numbers.slots, numbers.cells, m, true));
-    }
-    plain(0)
+    let fit = fit_workspaces(numbers, phase, current, first, last, waiting);
+    ready(fit, phase)?;
+    open_rows(numbers, phase, waiting)
 }
 
 pub fn begin(
@@ -186,62 +196,26 @@ pub fn begin(
     first: &[u32],
     last: &[u32],
     waiting: &[u8],
-) -> Refusal
-    ensures { let k = lent_to numbers phase [] current.now first.now last.now waiting.now in
-        (result.number ≡ refusal Begin k) × (fault_of result.fault ≡ told Begin k) }
+) -> Result<(), Refusal>
+    ensures { Judges result Begin (lent_to numbers phase [] current.now first.now last.now waiting.now) }
 {
-    let good = numbers.sound(phase);
-    if good {} else {
-        return plain(1);
-    }
-    let lent = numbers.fits_workspaces(current.len(), first.len(), last.len(), waiting.len());
-    if lent {} else {
-        return plain(1);
-    }
-    let recovering = is_recovering(phase);
-    if recovering {
-        return plain(10);
-    }
-    let m = open_bad(numbers, phase, waiting);
-    if m != 0 {
-        return bad(row_fault(waiting, numbers.slots, numbers.cells, m, true));
-    }
-    let full = numbers.full(phase);
-    if full {
-        return plain(5);
-    }
-    let spent = numbers.used_up(phase);
-    if spent {
-        return plain(6);
-    }
-    plain(0)
+    abort(numbers, phase, current, first, last, waiting)?;
+    has_room(numbers, phase)
 }
 
-pub fn force(numbers: Numbers, phase: Phase, medium: &[u8], waiting: &[u8]) -> Refusal
-    ensures { let k = lent_to numbers phase medium.now [] [] [] waiting.now in
-        (result.number ≡ refusal Force k) × (fault_of result.fault ≡ told Force k) }
+pub fn force(numbers: Numbers, phase: Phase, medium: &[u8], waiting: &[u8]) -> Result<(), Refusal>
+    ensures { Judges result Force (lent_to numbers phase medium.now [] [] [] waiting.now) }
 {
-    let lent = both(
-        numbers.fits_medium(medium.len()),
-        numbers.fits_rows(waiting.len()),
-    );
-    let fit = both(numbers.sound(phase), lent);
-    if fit {} else {
-        return plain(1);
-    }
-    let recovering = is_recovering(phase);
-    if recovering {
-        return plain(10);
-    }
+    let fit = fit_rows(numbers, phase, medium, waiting);
+    ready(fit, phase)?;
     if numbers.f >= numbers.l {
-        return plain(0);
+        return Ok(());
     }
     let n = numbers.f + 1;
-    let found = entry_at(waiting, 0, numbers.slots, numbers.cells, n);
-    let Row::Holds(_) = found else {
-        return bad(fault_in(found, n));
-    };
-    plain(0)
+    match entry_at(waiting, 0, numbers.slots, numbers.cells, n) {
+        Ok(_) => Ok(()),
+        Err(reason) => Err(Refusal::BadRow(Fault { reason, entry: n })),
+    }
 }
 
 pub fn write_back(
@@ -252,111 +226,69 @@ pub fn write_back(
     current: &[u64],
     first: &[u32],
     last: &[u32],
-) -> u32
-    ensures { let after = result in
-        after ≡ refusal (WriteBack cell) (lent_to numbers phase medium.now current.now first.now last.now []) }
+) -> Result<(), Refusal>
+    ensures { Judges result (WriteBack cell) (lent_to numbers phase medium.now current.now first.now last.now []) }
 {
-    let values = both(
-        numbers.fits_cells(first.len()),
-        numbers.fits_cells(last.len()),
-    );
-    let lent = both(
-        numbers.fits_medium(medium.len()),
-        both(numbers.fits_cells(current.len()), values),
-    );
-    let fit = both(numbers.sound(phase), lent);
-    if fit {} else {
-        return 1;
-    }
-    let recovering = is_recovering(phase);
-    if recovering {
-        return 10;
-    }
-    if numbers.cells <= cell {
-        return 4;
-    }
+    let fit = fit_table(numbers, phase, medium, current, first, last);
+    ready(fit, phase)?;
+    in_table(numbers, cell)?;
     let at = index(cell);
-    let ahead = both(0 < first[at], numbers.f < last[at]);
-    refuse(ahead, 8, 0)
+    if 0 < first[at] && numbers.f < last[at] {
+        return Err(Refusal::NotStored);
+    }
+    Ok(())
 }
 
 // Cut to p, not h: 7, the medium's row of p isn't entry p; 9, it is an update.
-fn cut_row(numbers: Numbers, p: u32, medium: &[u8]) -> Refusal
+fn cut_row(numbers: Numbers, p: u32, medium: &[u8]) -> Result<(), Refusal>
     requires { (Rows medium.now 32 numbers.slots 1) × (numbers.h ≤ p) }
-    ensures { let rows = medium.now in
-        (result.number ≡ moved_no numbers.h p (entry_in rows 32 numbers.slots numbers.cells p)) × (fault_of result.fault ≡ moved_fault result.number p (wrong_in rows 32 numbers.slots numbers.cells p)) }
+    ensures number { number_in result ≡ moved_no numbers.h p (entry_in medium.now 32 numbers.slots numbers.cells p) }
+    ensures fault { told_in result ≡ moved_fault (number_in result) p (wrong_in medium.now 32 numbers.slots numbers.cells p) }
 {
     if p == numbers.h {
-        return plain(0);
+        return Ok(());
     }
-    let found = entry_at(medium, 32, numbers.slots, numbers.cells, p);
-    let Row::Holds(what) = found else {
-        return bad(fault_in(found, p));
-    };
-    let Entry::Update {
-        cell: _,
-        old: _,
-        new: _,
-    } = what
-    else {
-        return plain(0);
-    };
-    plain(9)
+    match entry_at(medium, 32, numbers.slots, numbers.cells, p) {
+        Ok(what) if what.is_update() => Err(Refusal::NotACut),
+        Ok(_) => Ok(()),
+        Err(reason) => Err(Refusal::BadRow(Fault { reason, entry: p })),
+    }
 }
 
-pub fn cut(numbers: Numbers, phase: Phase, p: u32, medium: &[u8], first: &[u32]) -> Refusal
-    ensures { let k = lent_to numbers phase medium.now [] first.now [] [] in
-        (result.number ≡ refusal (Cut p) k) × (fault_of result.fault ≡ told (Cut p) k) }
+pub fn cut(
+    numbers: Numbers,
+    phase: Phase,
+    p: u32,
+    medium: &[u8],
+    first: &[u32],
+) -> Result<(), Refusal>
+    ensures { Judges result (Cut p) (lent_to numbers phase medium.now [] first.now [] []) }
 {
-    let good = numbers.sound(phase);
-    if good {} else {
-        return plain(1);
+    let fit = fit_first(numbers, phase, medium, first);
+    ready(fit, phase)?;
+    if p < numbers.h || numbers.f < p || numbers.o < p {
+        return Err(Refusal::NotACut);
     }
-    let lent = both(
-        numbers.fits_medium(medium.len()),
-        numbers.fits_cells(first.len()),
-    );
-    if lent {} else {
-        return plain(1);
+    cut_row(numbers, p, medium)?;
+    if any_first(first, p) {
+        return Err(Refusal::NotACut);
     }
-    let recovering = is_recovering(phase);
-    if recovering {
-        return plain(10);
-    }
-    // p below h, above f or above o
-    let out = either(p < numbers.h, either(numbers.f < p, numbers.o < p));
-    if out {
-        return plain(9);
-    }
-    let row = cut_row(numbers, p, medium);
-    if row.number != 0 {
-        return row;
-    }
-    let dirty = any_first(first, p);
-    if dirty {
-        return plain(9);
-    }
-    plain(0)
+    Ok(())
 }
 
-pub fn look(numbers: Numbers, phase: Phase, n: u32, medium: &[u8], waiting: &[u8]) -> u32
-    ensures { result ≡ refusal (Look n) (lent_to numbers phase medium.now [] [] [] waiting.now) }
+pub fn look(
+    numbers: Numbers,
+    phase: Phase,
+    n: u32,
+    medium: &[u8],
+    waiting: &[u8],
+) -> Result<(), Refusal>
+    ensures { Judges result (Look n) (lent_to numbers phase medium.now [] [] [] waiting.now) }
 {
-    let lent = both(
-        numbers.fits_medium(medium.len()),
-        numbers.fits_rows(waiting.len()),
-    );
-    let fit = both(numbers.sound(phase), lent);
-    let out = either(n <= numbers.h, numbers.l < n);
-    if fit {} else {
-        return 1;
+    let fit = fit_rows(numbers, phase, medium, waiting);
+    ready(fit, phase)?;
+    if n <= numbers.h || numbers.l < n {
+        return Err(Refusal::NoEntry);
     }
-    let recovering = is_recovering(phase);
-    if recovering {
-        return 10;
-    }
-    if out {
-        return 11;
-    }
-    0
+    Ok(())
 }

@@ -1,44 +1,46 @@
--- `refusal::cut` meets its contract. The table cut after its first three tests, of which the first is asked in two parts, and again after the row.
-use mathlib.Core.Path.{refl, sym, ◌∙◌}
-use native.Mathlib.Omega.{arith}
-use Rattle.state.proofs.Facts.{and_left, sound_facts, medium_fits}
-use Rattle.state.proofs.Exits.{unfit_stop, fit_pass, stop, pass}
-use Rattle.refusal.proofs.Lengths.{rows_fit}
-use Rattle.refusal.proofs.Faults.{said, cut-says, not_below}
-use Rattle.refusal.proofs.Tables.{cut_early, cut_middle, cut_late, unsound, unlent, fit}
+-- `refusal::cut` meets its contract. The tests asked part by part are the table's.
+use Rattle.std.proofs.Common.{◌≡◌, refl, true, false, ◌||◌, [], ◌++◌, arith, ltb}
+use Rattle.refusal.specs.Judges.{ready_tests}
+use Rattle.refusal.proofs.Asking.{is_fit, stopped, holds, none_holds}
+use Rattle.refusal.proofs.Faults.{cut_out, cut_moved, cut_last}
+use Rattle.refusal.proofs.Lengths.{medium_rows}
+use Rattle.refusal.proofs.Tables.{range_tests, moved_tests, dirty_tests, cut_table}
 use Rattle.refusal.proofs.cut.Goals as goal
 
-pub returns-else-good : goal.returns-else-good
-returns-else-good c =
-    said _ _ _ 1 c.plain.ensures (cut_early _ _ _ _ _ c.sound-good.ensures refl _ _ _ _ _ _ _ _ refl refl refl refl refl refl 1 _ _ refl refl (unfit_stop _ _ (unsound _ _ c.if-good.false)) (λ z. omega arith)) (λ z. omega arith) (λ z. omega arith)
-
-pub returns-else-lent : goal.returns-else-lent
-returns-else-lent c =
-    said _ _ _ 1 c.plain-else-lent.ensures (cut_early _ _ _ _ _ c.sound-good.ensures refl _ _ _ _ _ _ _ _ c.fits_medium.ensures c.fits_cells.ensures c.both-lent.ensures refl refl refl 1 _ _ refl refl (unfit_stop _ _ (unlent _ _ c.if-good.true c.if-lent.false)) (λ z. omega arith)) (λ z. omega arith) (λ z. omega arith)
-
-pub returns-then-recovering : goal.returns-then-recovering
-returns-then-recovering c =
-    said _ _ _ 10 c.plain-then-recovering.ensures (cut_early _ _ _ _ _ c.sound-good.ensures c.is_recovering-recovering.ensures _ _ _ _ _ _ _ _ c.fits_medium.ensures c.fits_cells.ensures c.both-lent.ensures refl refl refl 10 10 _ refl (stop _ 10 _ c.if-recovering.true) (fit_pass _ 10 10 (fit _ _ c.if-good.true c.if-lent.true) refl) (λ z. omega arith)) (λ z. omega arith) (λ z. omega arith)
-
-pub returns-then-out : goal.returns-then-out
-returns-then-out c =
-    said _ _ _ 9 c.plain-then-out.ensures (cut_early _ _ _ _ _ c.sound-good.ensures c.is_recovering-recovering.ensures _ _ _ _ _ _ _ _ c.fits_medium.ensures c.fits_cells.ensures c.both-lent.ensures refl c.either.ensures c.either-out.ensures 9 9 9 (stop _ 9 _ c.if-out.true) (pass _ 10 9 9 c.if-recovering.false refl) (fit_pass _ 9 9 (fit _ _ c.if-good.true c.if-lent.true) refl) (λ z. omega arith)) (λ z. omega arith) (λ z. omega arith)
-
-pub cut_row-row-requires : goal.cut_row-row-requires
-cut_row-row-requires c =
+pub returns-in_err-ready : goal.returns-in_err-ready
+returns-in_err-ready c =
     let a = c.args in
-    let s = sound_facts a.numbers a.phase (sym c.sound-good.ensures ∙ c.if-good.true) in
-    let l = medium_fits a.numbers a.medium.now (sym c.fits_medium.ensures ∙ and_left _ _ (sym c.both-lent.ensures ∙ c.if-lent.true)) in
-    (rows_fit _ _ _ 32 1 s (omega arith) (omega arith), not_below _ _ _ _ c.either-out.ensures c.if-out.false)
+    stopped _ _ (ready_tests c.fit_first-fit.result a.phase) (range_tests a.numbers a.p ++ moved_tests a.numbers a.p a.medium.now ++ dirty_tests a.p a.first.now)
+    (cut_table a.numbers a.phase a.medium.now [] a.first.now [] [] _ a.p c.fit_first-fit.ensures) _ _ c.from_residual.ensures.1 c.in_err-ready.ensures
 
-pub returns-then-row-ne0 : goal.returns-then-row-ne0
-returns-then-row-ne0 c =
-    cut-says _ _ _ _ _ c.cut_row-row.result c.cut_row-row.ensures (cut_middle _ _ _ _ _ c.sound-good.ensures c.is_recovering-recovering.ensures _ _ _ _ _ _ _ _ c.fits_medium.ensures c.fits_cells.ensures c.both-lent.ensures refl c.either.ensures c.either-out.ensures 0 0 0 (pass _ 9 0 0 c.if-out.false refl) (pass _ 10 0 0 c.if-recovering.false refl) (fit_pass _ 0 0 (fit _ _ c.if-good.true c.if-lent.true) refl) _ c.cut_row-row.ensures.0 refl c.if-row-ne0.true)
+pub returns-then-p-numbers : goal.returns-then-p-numbers
+returns-then-p-numbers c =
+    let a = c.args in
+    let b : (ltb a.p a.numbers.h || (ltb a.numbers.f a.p || ltb a.numbers.o a.p)) ≡ true = grind arith in
+    cut_out a.numbers a.phase a.p a.medium.now a.first.now _ c.fit_first-fit.ensures _ c.in_ok-ready.ensures b
 
-pub returns-then-dirty : goal.returns-then-dirty
-returns-then-dirty c =
-    said _ _ _ 9 c.plain-then-dirty.ensures (cut_late _ _ _ _ _ c.sound-good.ensures c.is_recovering-recovering.ensures _ _ _ _ _ _ _ _ c.fits_medium.ensures c.fits_cells.ensures c.both-lent.ensures refl c.either.ensures c.either-out.ensures 0 0 0 (pass _ 9 0 0 c.if-out.false refl) (pass _ 10 0 0 c.if-recovering.false refl) (fit_pass _ 0 0 (fit _ _ c.if-good.true c.if-lent.true) refl) _ c.cut_row-row.ensures.0 refl 9 _ c.if-row-ne0.false c.any_first-dirty.ensures (stop _ 9 0 c.if-dirty.true)) (λ z. omega arith) (λ z. omega arith)
+pub cut_row-requires : goal.cut_row-requires
+cut_row-requires c =
+    let a = c.args in
+    (medium_rows a.numbers a.phase a.medium.now [] a.first.now [] [] _ (is_fit _ _ _ (omega arith) c.in_ok-ready.ensures) c.fit_first-fit.ensures, omega arith)
+
+pub returns-in_err-cut_row : goal.returns-in_err-cut_row
+returns-in_err-cut_row c =
+    let a = c.args in
+    let b : (ltb a.p a.numbers.h || (ltb a.numbers.f a.p || ltb a.numbers.o a.p)) ≡ false = grind arith in
+    cut_moved a.numbers a.phase a.p a.medium.now a.first.now _ c.fit_first-fit.ensures _ c.in_ok-ready.ensures b _ _ c.from_residual-in_err-cut_row.ensures.1
+    c.in_err-cut_row.ensures.number c.in_err-cut_row.ensures.fault
+
+pub returns-then-any_first : goal.returns-then-any_first
+returns-then-any_first c =
+    let a = c.args in
+    let b : (ltb a.p a.numbers.h || (ltb a.numbers.f a.p || ltb a.numbers.o a.p)) ≡ false = grind arith in
+    cut_last a.numbers a.phase a.p a.medium.now a.first.now _ c.fit_first-fit.ensures _ c.in_ok-ready.ensures b _ c.in_ok-cut_row.ensures.number
+    (holds _ 9 _ (grind arith) refl refl)
 
 pub returns : goal.returns
 returns c =
-    said _ _ _ 0 c.plain-2.ensures (cut_late _ _ _ _ _ c.sound-good.ensures c.is_recovering-recovering.ensures _ _ _ _ _ _ _ _ c.fits_medium.ensures c.fits_cells.ensures c.both-lent.ensures refl c.either.ensures c.either-out.ensures 0 0 0 (pass _ 9 0 0 c.if-out.false refl) (pass _ 10 0 0 c.if-recovering.false refl) (fit_pass _ 0 0 (fit _ _ c.if-good.true c.if-lent.true) refl) _ c.cut_row-row.ensures.0 refl 0 _ c.if-row-ne0.false c.any_first-dirty.ensures (pass _ 9 0 0 c.if-dirty.false refl)) (λ z. omega arith) (λ z. omega arith)
+    let a = c.args in
+    let b : (ltb a.p a.numbers.h || (ltb a.numbers.f a.p || ltb a.numbers.o a.p)) ≡ false = grind arith in
+    cut_last a.numbers a.phase a.p a.medium.now a.first.now _ c.fit_first-fit.ensures _ c.in_ok-ready.ensures b _ c.in_ok-cut_row.ensures.number
+    (none_holds _ 9 _ (grind arith))

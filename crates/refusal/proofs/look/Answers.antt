@@ -1,21 +1,24 @@
--- `refusal::look` meets its contract. All its tests, by congruence.
-use mathlib.Core.Path.{refl}
-use Rattle.state.proofs.Exits.{unfit_stop, fit_pass, stop, pass}
-use Rattle.refusal.proofs.Tables.{look_is}
+-- `refusal::look` meets its contract. The tests asked part by part are the table's.
+use Rattle.std.proofs.Common.{◌≡◌, refl, true, false, ◌||◌, [], arith, ltb, leb}
+use Rattle.refusal.specs.Judges.{ready_tests}
+use Rattle.refusal.proofs.Asking.{holds, none_holds, stopped, ended}
+use Rattle.refusal.proofs.Tables.{entry_tests, look_table}
 use Rattle.refusal.proofs.look.Goals as goal
+use Rattle.refusal.proofs.look.Goals.{then-n-numbers-via-then-n-numbers, then-n-numbers-via-else-n-numbers+then-numbers-n}
 
-pub returns-else-fit : goal.returns-else-fit
-returns-else-fit c =
-    look_is _ _ _ _ _ c.sound.ensures refl _ _ _ _ _ _ _ 1 _ _ c.fits_medium.ensures c.fits_rows.ensures c.both-lent.ensures c.both-fit.ensures c.either-out.ensures refl refl (unfit_stop _ _ c.if-fit.false)
+pub returns-in_err-ready : goal.returns-in_err-ready
+returns-in_err-ready c =
+    let a = c.args in
+    stopped _ _ (ready_tests c.fit_rows-fit.result a.phase) (entry_tests a.numbers a.n) (look_table a.numbers a.phase a.medium.now [] [] [] a.waiting.now _ a.n c.fit_rows-fit.ensures) _ _ c.from_residual.ensures.1 c.in_err-ready.ensures
 
-pub returns-then-recovering : goal.returns-then-recovering
-returns-then-recovering c =
-    look_is _ _ _ _ _ c.sound.ensures c.is_recovering-recovering.ensures _ _ _ _ _ _ _ 10 10 _ c.fits_medium.ensures c.fits_rows.ensures c.both-lent.ensures c.both-fit.ensures c.either-out.ensures refl (stop _ 10 _ c.if-recovering.true) (fit_pass _ 10 10 c.if-fit.true refl)
-
-pub returns-then-out : goal.returns-then-out
-returns-then-out c =
-    look_is _ _ _ _ _ c.sound.ensures c.is_recovering-recovering.ensures _ _ _ _ _ _ _ 11 11 11 c.fits_medium.ensures c.fits_rows.ensures c.both-lent.ensures c.both-fit.ensures c.either-out.ensures (stop _ 11 _ c.if-out.true) (pass _ 10 11 11 c.if-recovering.false refl) (fit_pass _ 11 11 c.if-fit.true refl)
+pub returns-then-n-numbers : goal.returns-then-n-numbers
+returns-then-n-numbers c =
+    let a = c.args in
+    let t : (leb a.n a.numbers.h || ltb a.numbers.l a.n) ≡ true = grind arith in
+    ended _ _ (ready_tests c.fit_rows-fit.result a.phase) (entry_tests a.numbers a.n) (look_table a.numbers a.phase a.medium.now [] [] [] a.waiting.now _ a.n c.fit_rows-fit.ensures) _ _ (omega arith) c.in_ok-ready.ensures (holds _ 11 _ t refl refl)
 
 pub returns : goal.returns
 returns c =
-    look_is _ _ _ _ _ c.sound.ensures c.is_recovering-recovering.ensures _ _ _ _ _ _ _ 0 0 0 c.fits_medium.ensures c.fits_rows.ensures c.both-lent.ensures c.both-fit.ensures c.either-out.ensures (pass _ 11 0 0 c.if-out.false refl) (pass _ 10 0 0 c.if-recovering.false refl) (fit_pass _ 0 0 c.if-fit.true refl)
+    let a = c.args in
+    let t : (leb a.n a.numbers.h || ltb a.numbers.l a.n) ≡ false = grind arith in
+    ended _ _ (ready_tests c.fit_rows-fit.result a.phase) (entry_tests a.numbers a.n) (look_table a.numbers a.phase a.medium.now [] [] [] a.waiting.now _ a.n c.fit_rows-fit.ensures) _ _ (omega arith) c.in_ok-ready.ensures (none_holds _ 11 _ t)

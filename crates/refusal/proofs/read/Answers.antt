@@ -1,28 +1,24 @@
--- `refusal::read` meets its contract. All its tests, by congruence.
-use borrow.Author.Tests.{le-leb, lt-leb}
-use mathlib.Core.Path.{refl}
-use native.Mathlib.Omega.{arith}
-use Rattle.state.proofs.Exits.{unfit_stop, fit_pass, stop, pass}
-use Rattle.refusal.proofs.Tables.{read_is}
+-- `refusal::read` meets its contract. The tests asked part by part are the table's.
+use Rattle.std.proofs.Common.{◌≡◌, ◌&&◌, [], eqb, length, arith}
+use Rattle.scope.specs.Keeper.{sound}
+use Rattle.scope.specs.Refusals.{lent}
+use Rattle.state.specs.State.{state_of}
+use Rattle.state.specs.Lent.{lent_to}
+use Rattle.refusal.specs.Judges.{run_tests, cell_tests}
+use Rattle.refusal.proofs.Asking.{stopped, ended}
+use Rattle.refusal.proofs.Tables.{read_table}
 use Rattle.refusal.proofs.read.Goals as goal
 
-pub returns-else-fit : goal.returns-else-fit
-returns-else-fit c = read_is _ _ _ _ _ c.sound.ensures refl _ _ _ _ 1 _ _ _ c.fits_cells.ensures c.both-fit.ensures refl refl refl refl (unfit_stop _ _ c.if-fit.false)
-
-pub returns-then-recovering : goal.returns-then-recovering
-returns-then-recovering c =
-    read_is _ _ _ _ _ c.sound.ensures c.is_recovering-recovering.ensures _ _ _ _ 10 10 _ _ c.fits_cells.ensures c.both-fit.ensures refl refl refl (stop _ 10 _ c.if-recovering.true) (fit_pass _ 10 10 c.if-fit.true refl)
-
-pub returns-then-idle : goal.returns-then-idle
-returns-then-idle c =
-    read_is _ _ _ _ _ c.sound.ensures c.is_recovering-recovering.ensures _ _ _ _ 3 3 3 _ c.fits_cells.ensures c.both-fit.ensures c.is_idle-idle.ensures refl (stop _ 3 _ c.if-idle.true) (pass _ 10 3 3 c.if-recovering.false refl) (fit_pass _ 3 3 c.if-fit.true refl)
-
-pub returns-then-numbers-cell : goal.returns-then-numbers-cell
-returns-then-numbers-cell c =
+pub returns-in_err-in_run : goal.returns-in_err-in_run
+unfolding lent lent_to state_of
+returns-in_err-in_run c =
     let a = c.args in
-    read_is _ _ _ _ _ c.sound.ensures c.is_recovering-recovering.ensures _ _ _ _ 4 4 4 4 c.fits_cells.ensures c.both-fit.ensures c.is_idle-idle.ensures (stop _ 4 _ (le-leb a.numbers.cells a.cell (omega arith))) (pass _ 3 4 4 c.if-idle.false refl) (pass _ 10 4 4 c.if-recovering.false refl) (fit_pass _ 4 4 c.if-fit.true refl)
+    let e : c.if-sound.fit ≡ (sound (state_of a.numbers a.phase) && eqb (length a.current.now) a.numbers.cells) = grind arith in
+    stopped _ _ (run_tests c.if-sound.fit a.phase) (cell_tests a.numbers a.cell) (read_table a.numbers a.phase [] a.current.now [] [] [] c.if-sound.fit a.cell e) _ _ c.from_residual.ensures.1 c.in_err-in_run.ensures
 
 pub returns : goal.returns
+unfolding lent lent_to state_of
 returns c =
     let a = c.args in
-    read_is _ _ _ _ _ c.sound.ensures c.is_recovering-recovering.ensures _ _ _ _ 0 0 0 0 c.fits_cells.ensures c.both-fit.ensures c.is_idle-idle.ensures (pass _ 4 0 0 (lt-leb a.numbers.cells a.cell (omega arith)) refl) (pass _ 3 0 0 c.if-idle.false refl) (pass _ 10 0 0 c.if-recovering.false refl) (fit_pass _ 0 0 c.if-fit.true refl)
+    let e : c.if-sound.fit ≡ (sound (state_of a.numbers a.phase) && eqb (length a.current.now) a.numbers.cells) = grind arith in
+    ended _ _ (run_tests c.if-sound.fit a.phase) (cell_tests a.numbers a.cell) (read_table a.numbers a.phase [] a.current.now [] [] [] c.if-sound.fit a.cell e) _ _ (omega arith) c.in_ok-in_run.ensures c.in_table.ensures
