@@ -3,44 +3,27 @@
 use Prim.Native.Nat.{ℕ}
 use mathlib.Core.Path.{◌≡◌, refl, sym, ap, ◌∙◌}
 use mathlib.Core.List.{List}
-use Rattle.scope.specs.Keeper.{Outcome, Answer, done, refused, cell, head, clean, stored, part}
+use Rattle.std.specs.Prelude.{Result, Ok, Err}
+use Rattle.scope.specs.Keeper.{Outcome, Answer, done, refused, cell, head, clean, stored, part, refusal_of, value_of}
 use Rattle.scope.specs.Row.{Fault}
-use Rattle.row.specs.Row.{fault_of}
-use Rattle.row.proofs.Sames.{fault-same}
+use Rattle.answer.specs.Answer.{number_of, told_in}
+use Rattle.answer.specs.declared.Refusal.{Refusal}
+use Rattle.answer.proofs.Refusals.{number-above, refusal-same}
 use Rattle.state.specs.Lent.{left}
 use Rattle.state.proofs.Sames.{Same, left-same}
 use Rattle.recovery.specs.Answers.{stepped}
+use Rattle.recovery.specs.declared.Step.{Step}
+use Rattle.recovery.specs.declared.Step.TheVariants.{Cell, Head, Clean}
 use Rattle.recovery.proofs.Sames.{step_same}
-use Rattle.keeper.specs.Answers.{answered, written_back, handed, leaves}
+use Rattle.keeper.specs.Answers.{answer_of, written_back, handed, leaves}
 use Rattle.keeper.specs.declared.State.{State}
-use Rattle.keeper.specs.declared.Outcome as outcome
-use Rattle.keeper.specs.declared.Stepped as steps
-use Rattle.keeper.specs.declared.WrittenBack as backs
-use Rattle.keeper.specs.declared.Answer as plain
-use Rattle.keeper.specs.declared.Answer.TheVariants as answer
+use Rattle.keeper.specs.declared.Outcome as code
 use Rattle.keeper.specs.declared.Back as back
 use Rattle.keeper.specs.declared.Back.TheVariants as backing
 
-answer_back : Answer → plain.Answer
-answer_back (done v) = answer.Done v
-answer_back (refused n) = answer.Refused n
-answer_back (cell c) = answer.Refused 0
-answer_back head = answer.Refused 0
-answer_back clean = answer.Refused 0
-answer_back stored = answer.Refused 0
-answer_back (part b) = answer.Refused 0
-
-answer-same : (a b : plain.Answer) → answered a ≡ answered b → a ≡ b
-unfolding answer_back
-answer-same a b e = sym (go a) ∙ ap answer_back e ∙ go b
-  where
-    go : (a : plain.Answer) → answer_back (answered a) ≡ a
-    go (answer.Done v) = refl
-    go (answer.Refused n) = refl
-
 back_back : Answer → back.Back
 back_back (done v) = backing.Clean
-back_back (refused n) = backing.Refused n
+back_back (refused n) = backing.Clean
 back_back (cell c) = backing.Clean
 back_back head = backing.Clean
 back_back clean = backing.Clean
@@ -54,7 +37,17 @@ back_same a b e = sym (go a) ∙ ap back_back e ∙ go b
     go : (a : back.Back) → back_back (written_back a) ≡ a
     go backing.Stored = refl
     go backing.Clean = refl
-    go (backing.Refused n) = refl
+
+-- what a call answers where it is done: told apart, and no refusal
+module _ {T : Type 0} (f : T → Answer) (apart : (a b : T) → f a ≡ f b → a ≡ b) (granted : (v : T) → refusal_of (f v) ≡ 0) where
+  not_refused : (v : T) (r : Refusal) → f v ≡ refused (number_of r) → ⊥
+  not_refused v r e = number-above r (sym (ap refusal_of e) ∙ granted v)
+
+  answer-same : (a b : Result T Refusal) → answer_of f a ≡ answer_of f b → told_in a ≡ told_in b → a ≡ b
+  answer-same (Ok v) (Ok w) e t = ap Ok (apart v w e)
+  answer-same (Ok v) (Err r) e t = absurd (not_refused v r e)
+  answer-same (Err r) (Ok w) e t = absurd (not_refused w r (sym e))
+  answer-same (Err r) (Err q) e t = ap Err (refusal-same r q (ap refusal_of e) t)
 
 module _ (m m' c c' f f' l l' w w' : List ℕ) (x : Outcome) where
   -- the state and the buffers that two outcomes leave
@@ -65,25 +58,37 @@ module _ (m m' c c' f f' l l' w w' : List ℕ) (x : Outcome) where
   unfolding leaves handed left
   alike a b s t p q = left-same a b s.numbers t.numbers s.phase t.phase m m' c c' f f' l l' w w' x p q
 
+  all_same : {T : Type 0} (g : T → Answer) → ((a b : T) → g a ≡ g b → a ≡ b) → ((v : T) → refusal_of (g v) ≡ 0) → (r t : code.Outcome T) (y : Fault)
+      → (leaves (answer_of g r.answer) r.state m c f l w ≡ x) × (told_in r.answer ≡ y)
+      → (leaves (answer_of g t.answer) t.state m' c' f' l' w' ≡ x) × (told_in t.answer ≡ y)
+      → (r ≡ t) × Alike (answer_of g r.answer) (answer_of g t.answer) r.state t.state
+  all_same g apart granted r t y p q =
+      let d = alike _ _ r.state t.state p.0 q.0 in let e = answer-same g apart granted r.answer t.answer d.answer (p.1 ∙ sym q.1) in
+      (λ i. record { answer = e i; state = record { numbers = d.numbers i; phase = d.phase i } }, d)
+
   -- recovery start, begin, read, write, commit, abort, force, cut
-  pub outcome_same : (r t : outcome.Outcome) (y : Fault) → (leaves (answered r.answer) r.state m c f l w ≡ x) × (fault_of r.fault ≡ y)
-      → (leaves (answered t.answer) t.state m' c' f' l' w' ≡ x) × (fault_of t.fault ≡ y)
-      → (r ≡ t) × Alike (answered r.answer) (answered t.answer) r.state t.state
-  outcome_same r t y p q =
-      let d = alike _ _ r.state t.state p.0 q.0 in let e = answer-same r.answer t.answer d.answer in
-      let g = fault-same r.fault t.fault y p.1 q.1 in
-      (λ i. record { answer = e i; fault = g i; state = record { numbers = d.numbers i; phase = d.phase i } }, d)
+  pub outcome_same : (r t : code.Outcome ℕ) (y : Fault) → (leaves (answer_of done r.answer) r.state m c f l w ≡ x) × (told_in r.answer ≡ y)
+      → (leaves (answer_of done t.answer) t.state m' c' f' l' w' ≡ x) × (told_in t.answer ≡ y)
+      → (r ≡ t) × Alike (answer_of done r.answer) (answer_of done t.answer) r.state t.state
+  outcome_same = all_same done (λ a b e. ap value_of e) (λ v. refl)
 
   -- recovery step
-  pub stepped_same : (r t : steps.Stepped) → leaves (stepped r.answer) r.state m c f l w ≡ x → leaves (stepped t.answer) t.state m' c' f' l' w' ≡ x
-      → (r ≡ t) × Alike (stepped r.answer) (stepped t.answer) r.state t.state
-  stepped_same r t p q =
-      let d = alike _ _ r.state t.state p q in let e = step_same r.answer t.answer d.answer in
-      (λ i. record { answer = e i; state = record { numbers = d.numbers i; phase = d.phase i } }, d)
+  pub stepped_same : (r t : code.Outcome Step) (y : Fault) → (leaves (answer_of stepped r.answer) r.state m c f l w ≡ x) × (told_in r.answer ≡ y)
+      → (leaves (answer_of stepped t.answer) t.state m' c' f' l' w' ≡ x) × (told_in t.answer ≡ y)
+      → (r ≡ t) × Alike (answer_of stepped r.answer) (answer_of stepped t.answer) r.state t.state
+  stepped_same = all_same stepped step_same go
+    where
+      go : (s : Step) → refusal_of (stepped s) ≡ 0
+      go (Cell c) = refl
+      go Head = refl
+      go Clean = refl
 
   -- write-back
-  pub written_back_same : (r t : backs.WrittenBack) → leaves (written_back r.answer) r.state m c f l w ≡ x → leaves (written_back t.answer) t.state m' c' f' l' w' ≡ x
-      → (r ≡ t) × Alike (written_back r.answer) (written_back t.answer) r.state t.state
-  written_back_same r t p q =
-      let d = alike _ _ r.state t.state p q in let e = back_same r.answer t.answer d.answer in
-      (λ i. record { answer = e i; state = record { numbers = d.numbers i; phase = d.phase i } }, d)
+  pub written_back_same : (r t : code.Outcome back.Back) (y : Fault) → (leaves (answer_of written_back r.answer) r.state m c f l w ≡ x) × (told_in r.answer ≡ y)
+      → (leaves (answer_of written_back t.answer) t.state m' c' f' l' w' ≡ x) × (told_in t.answer ≡ y)
+      → (r ≡ t) × Alike (answer_of written_back r.answer) (answer_of written_back t.answer) r.state t.state
+  written_back_same = all_same written_back back_same go
+    where
+      go : (b : back.Back) → refusal_of (written_back b) ≡ 0
+      go backing.Stored = refl
+      go backing.Clean = refl

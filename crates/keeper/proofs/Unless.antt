@@ -1,57 +1,39 @@
 -- A call that is refused leaves what it was handed, in the code's own answer, and tells what its refusal tells; one that is done tells nothing.
 use Prim.Native.Nat.{ℕ}
-use mathlib.Core.Path.{◌≡◌, refl, sym, ap, ◌∙◌}
-use mathlib.Core.Bool.{Bool, true, false, ◌||◌}
-use native.Mathlib.Omega.{arith}
+use mathlib.Core.Path.{◌≡◌, sym, ap, ◌∙◌}
 use mathlib.Core.List.{List}
-use Rattle.scope.specs.Keeper.{Keeper, refused}
-use lib.Dec.{eqb}
-use Rattle.scope.specs.Bytes.{pick}
+use Rattle.std.specs.Prelude.{Ok, Err}
+use Rattle.scope.specs.Keeper.{Keeper, Answer, refused}
 use Rattle.scope.specs.Row.{faultless}
-use Rattle.scope.specs.Refusals.{Call, Read, Write, refusal, bad_row, told}
+use Rattle.scope.specs.Refusals.{Call, told}
 use Rattle.scope.specs.Calls.{unchanged, act}
 use Rattle.scope.proofs.Refusals.{numbered-refused}
-use Rattle.scope.proofs.Told.{told_nothing}
-use Rattle.row.specs.Row.{fault_of}
-use Rattle.row.specs.declared.Fault.{Fault}
-use Rattle.row.specs.declared.Fault.TheVariants.{None}
+use Rattle.answer.specs.Answer.{number_of, told_in}
+use Rattle.answer.specs.declared.Refusal.{Refusal}
+use Rattle.answer.proofs.Refusals.{number-above}
 use Rattle.state.specs.Lent.{lent_to}
-use Rattle.keeper.specs.Answers.{answered, handed, leaves}
+use Rattle.refusal.specs.Judges.{Judges}
+use Rattle.keeper.specs.Answers.{answer_of, handed, leaves}
 use Rattle.keeper.specs.declared.State.{State}
-use Rattle.keeper.specs.declared.Outcome as result
-use Rattle.keeper.specs.declared.Answer.TheVariants.{Done, Refused}
+use Rattle.keeper.specs.declared.Outcome.{Outcome}
 
-module _ (a : Call) (s : State) (medium current first last waiting : List ℕ) (r : result.Outcome) (number : ℕ)
-    (e : number ≡ refusal a (lent_to s.numbers s.phase medium current first last waiting)) where
-  pub refused-leaves : ((k : Keeper) → unchanged a k ≡ k) → (f : Fault) → r ≡ record { answer = Refused number; fault = f; state = s } → (number ≡ 0 → ⊥)
-      → fault_of f ≡ told a (lent_to s.numbers s.phase medium current first last waiting)
-      → (leaves (answered r.answer) r.state medium current first last waiting ≡ act a (handed s medium current first last waiting))
-      × (fault_of r.fault ≡ told a (handed s medium current first last waiting))
+module _ {S T : Type 0} (a : Call) (s : State) (medium current first last waiting : List ℕ) (r : Outcome T) where
+  pub refused-leaves : (f : T → Answer) → ((k : Keeper) → unchanged a k ≡ k) → (x : Refusal) → r ≡ record { answer = Err x; state = s }
+      → Judges {T = S} (Err x) a (lent_to s.numbers s.phase medium current first last waiting)
+      → (leaves (answer_of f r.answer) r.state medium current first last waiting ≡ act a (handed s medium current first last waiting))
+      × (told_in r.answer ≡ told a (handed s medium current first last waiting))
   unfolding leaves handed
-  refused-leaves u f q h w =
+  refused-leaves f u x q j =
       let k = lent_to s.numbers s.phase medium current first last waiting in
-      (rw q (ap (λ g. record { answer = refused number; keeper = g }) (sym (u k)) ∙ numbered-refused a k number e h), rw q w)
+      rw q (ap (λ g. record { answer = refused (number_of x); keeper = g }) (sym (u k)) ∙ numbered-refused a k (number_of x) j.number (number-above x), j.fault)
 
-  -- a call that is done tells nothing
-  pub done-tells : number ≡ 0 → r.fault ≡ None → fault_of r.fault ≡ told a (handed s medium current first last waiting)
+  pub done-tells : (v : S) (w : T) (t : State) → r ≡ record { answer = Ok w; state = t } → Judges {T = S} (Ok v) a (lent_to s.numbers s.phase medium current first last waiting)
+      → told_in r.answer ≡ told a (handed s medium current first last waiting)
   unfolding handed
-  done-tells z q = rw q (told_nothing a (lent_to s.numbers s.phase medium current first last waiting) number e (λ x. omega arith) (λ x. omega arith))
+  done-tells v w t q j = rw q j.fault
 
--- the fault of an outcome that is done
-pub done-fault : (r : result.Outcome) (v : ℕ) (t : State) → r ≡ record { answer = Done v; fault = None; state = t } → r.fault ≡ None
-done-fault r v t q = rw q
-
--- calls that judge no row tell nothing
-
-nothing : (b : Bool) → faultless ≡ pick b faultless faultless
-nothing true = refl
-nothing false = refl
-
-module _ (k : Keeper) where
-  pub read_silent : (c : ℕ) → faultless ≡ told (Read c) k
-  unfolding told bad_row
-  read_silent c = nothing (eqb (refusal (Read c) k) 2 || eqb (refusal (Read c) k) 7)
-
-  pub write_silent : (c v : ℕ) → faultless ≡ told (Write c v) k
-  unfolding told bad_row
-  write_silent c v = nothing (eqb (refusal (Write c v) k) 2 || eqb (refusal (Write c v) k) 7)
+  -- the same where what is told is known
+  pub rolled-tells : (v : S) → told_in r.answer ≡ faultless → Judges {T = S} (Ok v) a (lent_to s.numbers s.phase medium current first last waiting)
+      → told_in r.answer ≡ told a (handed s medium current first last waiting)
+  unfolding handed
+  rolled-tells v e j = e ∙ j.fault

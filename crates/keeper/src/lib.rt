@@ -1,7 +1,7 @@
 // The keeper: its state, and its calls as methods of the state by value. Each call takes the state and the buffers that it is lent, and
 // hands the state back with its answer; format and table view, which take no state, stand in `medium`.
 //
-// A call that is refused answers the papers' number, hands back the state that it was given and changes no byte.
+// A call that is refused answers why, hands back the state that it was given and changes no byte.
 #![tactic(auto)]
 
 pub mod looking;
@@ -9,11 +9,9 @@ pub mod recovering;
 pub mod storing;
 pub mod transaction;
 
-ghost use Rattle.std.specs.Prelude.{◌≡◌};
+ghost use Rattle.std.specs.Prelude.{◌≡◌, Ok, Err};
 
-use recovery::Step;
-use refusal::Refusal;
-use row::Fault;
+use answer::Refusal;
 use state::{Numbers, Phase};
 
 // N, C, h, f, l, o and the phase. Its fields are the host's to read; a state that is not sound is refused with 1.
@@ -23,83 +21,36 @@ pub struct State {
     pub phase: Phase,
 }
 
-// Done, with a value (0 where the papers name none), or the refusal's number.
+// Done, with what the call answers (0 where the papers name no value), or why it is refused; and the state after it.
 #[derive(Clone, Copy)]
-pub enum Answer {
-    Done(u64),
-    Refused(u32),
-}
-
-// Beside 2 and 7 what is wrong with the lowest bad row, and the entry expected there.
-#[derive(Clone, Copy)]
-pub struct Outcome {
-    pub answer: Answer,
-    pub fault: Fault,
-    pub state: State,
-}
-
-#[derive(Clone, Copy)]
-pub struct Stepped {
-    pub answer: Step,
+pub struct Outcome<T> {
+    pub answer: Result<T, Refusal>,
     pub state: State,
 }
 
 // A write-back stored the cell, or it was clean.
-#[derive(Clone, Copy)]
+#[derive(Clone, Copy, Debug, PartialEq, Eq)]
 pub enum Back {
     Stored,
     Clean,
-    Refused(u32),
 }
 
-#[derive(Clone, Copy)]
-pub struct WrittenBack {
-    pub answer: Back,
-    pub state: State,
-}
-
-// The numbers with the last entry made, and the last before the open transaction.
-fn made(numbers: Numbers, l: u32, o: u32) -> Numbers
-    ensures { result ≡ record { cells = numbers.cells; slots = numbers.slots; h = numbers.h; f = numbers.f; l = l; o = o } }
-{
-    Numbers {
-        cells: numbers.cells,
-        slots: numbers.slots,
-        h: numbers.h,
-        f: numbers.f,
-        l,
-        o,
-    }
-}
-
-fn refused(state: State, number: u32) -> Outcome
-    ensures { result ≡ record { answer = Answer.Refused number; fault = Fault.None; state = state } }
+fn done<T>(answer: T, numbers: Numbers, phase: Phase) -> Outcome<T>
+    ensures { result ≡ record { answer = Ok answer; state = record { numbers = numbers; phase = phase } } }
 {
     Outcome {
-        answer: Answer::Refused(number),
-        fault: Fault::None,
-        state,
-    }
-}
-
-// A refusal that may have a row for its reason.
-fn refused_with(state: State, no: Refusal) -> Outcome
-    ensures { result ≡ record { answer = Answer.Refused no.number; fault = no.fault; state = state } }
-{
-    let fault = no.fault;
-    Outcome {
-        answer: Answer::Refused(no.number),
-        fault,
-        state,
-    }
-}
-
-fn done(value: u64, numbers: Numbers, phase: Phase) -> Outcome
-    ensures { result ≡ record { answer = Answer.Done value; fault = Fault.None; state = record { numbers = numbers; phase = phase } } }
-{
-    Outcome {
-        answer: Answer::Done(value),
-        fault: Fault::None,
+        answer: Ok(answer),
         state: State { numbers, phase },
+    }
+}
+
+impl State {
+    fn refused<T>(self, why: Refusal) -> Outcome<T>
+        ensures { result ≡ record { answer = Err why; state = self } }
+    {
+        Outcome {
+            answer: Err(why),
+            state: self,
+        }
     }
 }

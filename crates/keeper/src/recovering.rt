@@ -1,23 +1,29 @@
 // Recovery, by the calls of the crate `recovery`.
 ghost use Rattle.std.specs.Prelude.{◌≡◌, []};
+ghost use Rattle.scope.specs.Keeper.{done};
 ghost use Rattle.scope.specs.Refusals.{RecoveryStart, RecoveryStep, told};
 ghost use Rattle.scope.specs.Calls.{act};
+ghost use Rattle.answer.specs.Answer.{told_in};
 ghost use Rattle.state.specs.Lent.{stateless};
-ghost use Rattle.recovery.specs.Answers.{numbered, stepped};
-ghost use Rattle.row.specs.Row.{fault_of};
-ghost use Rattle.keeper.specs.Answers.{answered, handed, leaves};
+ghost use Rattle.recovery.specs.Answers.{stepped};
+ghost use Rattle.keeper.specs.Answers.{answer_of, handed, leaves};
 
-use crate::{Answer, Outcome, State, Stepped};
+use crate::{Outcome, State, done};
+use recovery::Step;
+use state::{Numbers, Phase};
 
-// A number that says whether a call is refused, as an answer.
-fn answer_of(number: u32) -> Answer
-    ensures { answered result ≡ numbered number }
-{
-    if number == 0 {
-        return Answer::Done(0);
-    }
-    Answer::Refused(number)
-}
+// The state that a refused start hands back.
+const NO_STATE: State = State {
+    numbers: Numbers {
+        cells: 0,
+        slots: 0,
+        h: 0,
+        f: 0,
+        l: 0,
+        o: 0,
+    },
+    phase: Phase::Idle,
+};
 
 impl State {
     // Recovery start: reads the entries that count and replays them over the table, undoing what has no end. `first` and `last` become
@@ -28,38 +34,27 @@ impl State {
         first: &mut [u32],
         last: &mut [u32],
         waiting: &[u8],
-    ) -> Outcome
+    ) -> Outcome<u64>
         ensures { let before = stateless medium.now current.old first.old last.old waiting.now in
-            let after = leaves (answered result.answer) result.state medium.now current.new first.new last.new waiting.now in
-            (after ≡ act RecoveryStart before) × (fault_of result.fault ≡ told RecoveryStart before) }
+            let after = leaves (answer_of done result.answer) result.state medium.now current.new first.new last.new waiting.now in
+            (after ≡ act RecoveryStart before) × (told_in result.answer ≡ told RecoveryStart before) }
     {
-        let start = recovery::recovery_start(medium, current, first, last, waiting);
-        let numbers = start.numbers;
-        let phase = start.phase;
-        let fault = start.fault;
-        Outcome {
-            answer: answer_of(start.number),
-            fault,
-            state: State { numbers, phase },
+        match recovery::recovery_start(medium, current, first, last, waiting) {
+            Ok(numbers) => done(0, numbers, Phase::Recovering),
+            Err(why) => NO_STATE.refused(why),
         }
     }
 
     // Recovery step: the lowest cell whose table value differs from the current one is stored; if none, the head with h = l, where h < l;
     // else nothing. Refuses 1, 10.
-    pub fn recovery_step(self, medium: &mut [u8], current: &[u64]) -> Stepped
+    pub fn recovery_step(self, medium: &mut [u8], current: &[u64]) -> Outcome<Step>
         ensures { let before = handed self medium.old current.now [] [] [] in
-            let after = leaves (stepped result.answer) result.state medium.new current.now [] [] [] in
-            after ≡ act RecoveryStep before }
+            let after = leaves (answer_of stepped result.answer) result.state medium.new current.now [] [] [] in
+            (after ≡ act RecoveryStep before) × (told_in result.answer ≡ told RecoveryStep before) }
     {
-        let numbers = self.numbers;
-        let phase = self.phase;
-        let step = recovery::recovery_step(numbers, phase, medium, current);
-        let answer = step.answer;
-        let numbers = step.numbers;
-        let phase = step.phase;
-        Stepped {
-            answer,
-            state: State { numbers, phase },
+        match recovery::recovery_step(self.numbers, self.phase, medium, current) {
+            Ok(next) => done(next.step, next.numbers, next.phase),
+            Err(why) => self.refused(why),
         }
     }
 }

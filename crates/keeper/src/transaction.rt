@@ -1,34 +1,32 @@
 // One transaction: begin, read, write, commit, abort. Commit stores its entry and all before it; the others store nothing.
-ghost use Rattle.std.specs.Prelude.{◌≡◌, [], ◌+◌};
+ghost use Rattle.std.specs.Prelude.{◌≡◌, []};
 ghost use Rattle.scope.specs.Calls.{rolled_back, act};
 ghost use Rattle.scope.specs.Refusals.{Begin, Read, Write, Commit, Abort, told};
 ghost use Rattle.scope.specs.Keeper.{done};
 ghost use Rattle.state.specs.State.{phase_of};
-ghost use Rattle.row.specs.Row.{fault_of};
-ghost use Rattle.keeper.specs.Answers.{answered, handed, leaves};
+ghost use Rattle.scope.specs.Row.{faultless};
+ghost use Rattle.answer.specs.Answer.{told_in};
+ghost use Rattle.keeper.specs.Answers.{answer_of, handed, leaves};
 ghost use Rattle.keeper.specs.Rolling.{Rolling};
 
-use crate::{Outcome, State, done, made, refused, refused_with};
+use crate::{Outcome, State, done};
 use forcing::{force_all, make_commit};
 use medium::layout::index;
-use row::{Entry, Fault};
-use state::{Phase, is_run};
+use row::Entry;
+use state::{Numbers, Phase};
 
 impl State {
     // Read: answers the cell's current value. Refuses 1, 10, 3, 4. Costs one cell.
-    pub fn read(self, cell: u32, current: &[u64]) -> Outcome
+    pub fn read(self, cell: u32, current: &[u64]) -> Outcome<u64>
         ensures { let before = handed self [] current.now [] [] [] in
-            let after = leaves (answered result.answer) result.state [] current.now [] [] [] in
-            (after ≡ act (Read cell) before) × (fault_of result.fault ≡ told (Read cell) before) }
+            let after = leaves (answer_of done result.answer) result.state [] current.now [] [] [] in
+            (after ≡ act (Read cell) before) × (told_in result.answer ≡ told (Read cell) before) }
     {
-        let numbers = self.numbers;
-        let phase = self.phase;
-        let no = refusal::read(numbers, phase, cell, current);
-        if no != 0 {
-            return refused(self, no);
+        let State { numbers, phase } = self;
+        if let Err(why) = refusal::read(numbers, phase, cell, current) {
+            return self.refused(why);
         }
-        let at = index(cell);
-        done(current[at], numbers, phase)
+        done(current[index(cell)], numbers, phase)
     }
 
     // Write: appends an update with the old current value and makes the new one current; sets `last`, and `first` where it was 0.
@@ -41,20 +39,17 @@ impl State {
         first: &mut [u32],
         last: &mut [u32],
         waiting: &mut [u8],
-    ) -> Outcome
+    ) -> Outcome<u64>
         ensures { let before = handed self [] current.old first.old last.old waiting.old in
-            let after = leaves (answered result.answer) result.state [] current.new first.new last.new waiting.new in
-            (after ≡ act (Write cell value) before) × (fault_of result.fault ≡ told (Write cell value) before) }
+            let after = leaves (answer_of done result.answer) result.state [] current.new first.new last.new waiting.new in
+            (after ≡ act (Write cell value) before) × (told_in result.answer ≡ told (Write cell value) before) }
     {
-        let numbers = self.numbers;
-        let phase = self.phase;
-        let no = refusal::write(numbers, phase, cell, current, first, last, waiting);
-        if no != 0 {
-            return refused(self, no);
+        let State { numbers, phase } = self;
+        if let Err(why) = refusal::write(numbers, phase, cell, current, first, last, waiting) {
+            return self.refused(why);
         }
         let n = numbers.l + 1;
-        let place = index(cell);
-        let old = current[place];
+        let old = current[index(cell)];
         journal::append(
             waiting,
             numbers.slots,
@@ -66,26 +61,24 @@ impl State {
             },
         );
         workspace::assign(current, first, last, cell, value, n);
-        done(0, made(numbers, n, numbers.o), Phase::Run)
+        done(0, Numbers { l: n, ..numbers }, Phase::Run)
     }
 
     // Commit: appends the commit entry, storing nothing, then takes force's step until f = l, and answers its number, l+1. The transaction is
     // durable once the stores are, which the host brings to its medium one by one, rows f+1 to l+1 in that order.
     // Refuses 1, 10, 3, 7, before anything is changed. Goes twice over the rows that are not stored: judged, then stored.
-    pub fn commit(self, medium: &mut [u8], waiting: &mut [u8]) -> Outcome
+    pub fn commit(self, medium: &mut [u8], waiting: &mut [u8]) -> Outcome<u64>
         ensures { let before = handed self medium.old [] [] [] waiting.old in
-            let after = leaves (answered result.answer) result.state medium.new [] [] [] waiting.new in
-            (after ≡ act Commit before) × (fault_of result.fault ≡ told Commit before) }
+            let after = leaves (answer_of done result.answer) result.state medium.new [] [] [] waiting.new in
+            (after ≡ act Commit before) × (told_in result.answer ≡ told Commit before) }
     {
-        let numbers = self.numbers;
-        let phase = self.phase;
-        let no = refusal::commit(numbers, phase, medium, waiting);
-        if no.number != 0 {
-            return refused_with(self, no);
+        let State { numbers, phase } = self;
+        if let Err(why) = refusal::commit(numbers, phase, medium, waiting) {
+            return self.refused(why);
         }
         let made = make_commit(numbers, waiting);
         let stored = force_all(made, medium, waiting);
-        done(made.l as u64, stored, Phase::Idle)
+        done(u64::from(made.l), stored, Phase::Idle)
     }
 
     // Abort: in run appends the abort entry and restores the transaction's cells in falling order; in idle it does nothing.
@@ -96,19 +89,16 @@ impl State {
         first: &mut [u32],
         last: &mut [u32],
         waiting: &mut [u8],
-    ) -> Outcome
+    ) -> Outcome<u64>
         ensures { let before = handed self [] current.old first.old last.old waiting.old in
-            let after = leaves (answered result.answer) result.state [] current.new first.new last.new waiting.new in
-            (after ≡ act Abort before) × (fault_of result.fault ≡ told Abort before) }
+            let after = leaves (answer_of done result.answer) result.state [] current.new first.new last.new waiting.new in
+            (after ≡ act Abort before) × (told_in result.answer ≡ told Abort before) }
     {
-        let numbers = self.numbers;
-        let phase = self.phase;
-        let no = refusal::abort(numbers, phase, current, first, last, waiting);
-        if no.number != 0 {
-            return refused_with(self, no);
+        let State { numbers, phase } = self;
+        if let Err(why) = refusal::abort(numbers, phase, current, first, last, waiting) {
+            return self.refused(why);
         }
-        let running = is_run(phase);
-        if running {
+        if phase.is_run() {
             return self.roll_back(Phase::Idle, current, first, last, waiting);
         }
         done(0, numbers, phase)
@@ -122,23 +112,20 @@ impl State {
         first: &mut [u32],
         last: &mut [u32],
         waiting: &mut [u8],
-    ) -> Outcome
+    ) -> Outcome<u64>
         ensures { let before = handed self [] current.old first.old last.old waiting.old in
-            let after = leaves (answered result.answer) result.state [] current.new first.new last.new waiting.new in
-            (after ≡ act Begin before) × (fault_of result.fault ≡ told Begin before) }
+            let after = leaves (answer_of done result.answer) result.state [] current.new first.new last.new waiting.new in
+            (after ≡ act Begin before) × (told_in result.answer ≡ told Begin before) }
     {
-        let numbers = self.numbers;
-        let phase = self.phase;
-        let no = refusal::begin(numbers, phase, current, first, last, waiting);
-        if no.number != 0 {
-            return refused_with(self, no);
+        let State { numbers, phase } = self;
+        if let Err(why) = refusal::begin(numbers, phase, current, first, last, waiting) {
+            return self.refused(why);
         }
-        let running = is_run(phase);
-        if running {
+        if phase.is_run() {
             return self.roll_back(Phase::Run, current, first, last, waiting);
         }
         let l = numbers.l;
-        done(0, made(numbers, l, l), Phase::Run)
+        done(0, Numbers { o: l, ..numbers }, Phase::Run)
     }
 
     // The abort entry appended, the open transaction's cells restored, and the phase after it.
@@ -149,11 +136,11 @@ impl State {
         first: &mut [u32],
         last: &mut [u32],
         waiting: &mut [u8],
-    ) -> Outcome
+    ) -> Outcome<u64>
         requires { Rolling self.numbers current.old first.old last.old waiting.old }
-        ensures { let after = leaves (answered result.answer) result.state [] current.new first.new last.new waiting.new in
+        ensures { let after = leaves (answer_of done result.answer) result.state [] current.new first.new last.new waiting.new in
             let before = handed self [] current.old first.old last.old waiting.old in
-            (after ≡ record { answer = done 0; keeper = rolled_back (phase_of next) before }) × (result.fault ≡ Fault.None) }
+            (after ≡ record { answer = done 0; keeper = rolled_back (phase_of next) before }) × (told_in result.answer ≡ faultless) }
     {
         let numbers = self.numbers;
         let l = numbers.l;
@@ -170,6 +157,11 @@ impl State {
             first,
             last,
         );
-        done(0, made(numbers, n, n), next)
+        let ended = Numbers {
+            l: n,
+            o: n,
+            ..numbers
+        };
+        done(0, ended, next)
     }
 }

@@ -1,25 +1,21 @@
 -- `keeper::State::read` meets its contract. Refused, or done, as the table says.
-use mathlib.Core.List.{[]}
-use mathlib.Core.Path.{refl, sym, ◌∙◌}
-use native.Mathlib.Omega.{arith}
+use Rattle.std.proofs.Common.{[], refl, sym, arith}
+use Rattle.scope.specs.Keeper.{done}
+use Rattle.scope.specs.Refusals.{Read}
 use Rattle.keeper.proofs.Passed.{read_passed}
 use Rattle.keeper.proofs.Transactions.{read_done}
-use Rattle.scope.specs.Refusals.{Read}
-use Rattle.keeper.proofs.Unless.{refused-leaves, done-tells, done-fault, read_silent}
+use Rattle.keeper.proofs.Unless.{refused-leaves, done-tells}
 use Rattle.keeper.proofs.State.read.Goals as goal
 
-pub returns-then-no-ne0 : goal.returns-then-no-ne0
-returns-then-no-ne0 c =
-    refused-leaves (Read _) _ [] _ [] [] [] _ _ c.read-no.ensures (λ k. refl) _ c.refused.ensures c.if-no-ne0.true (read_silent _ _)
+pub returns-in-Err : goal.returns-in-Err
+returns-in-Err c = refused-leaves (Read _) _ [] _ [] [] [] _ done (λ k. refl) _ c.refused.ensures c.in-Err.ensures
 
-pub bounds-current-at : goal.bounds-current-at
-bounds-current-at c =
+pub bounds-current-index : goal.bounds-current-index
+bounds-current-index c =
     let a = c.args in
-    let w = read_passed a.self.numbers a.self.phase [] a.current.now [] [] [] a.cell (sym c.read-no.ensures ∙ c.if-no-ne0.false) in omega (arith, w)
+    omega (arith, read_passed a.self.numbers a.self.phase [] a.current.now [] [] [] a.cell (sym c.in_default.ensures.number))
 
 pub returns : goal.returns
 returns c =
-    let s = c.args.self in (
-      read_done s _ _ _ _ c.read-no.ensures _ _ c.index-at.ensures.0 refl c.done.ensures c.if-no-ne0.false,
-      done-tells (Read _) s [] _ [] [] [] c.done.result _ c.read-no.ensures c.if-no-ne0.false (done-fault _ _ _ c.done.ensures),
-    )
+    let s = c.args.self in
+    (read_done s _ _ _ c.in_default.ensures.number _ _ c.index.ensures.0 refl c.done.ensures, done-tells (Read _) s [] _ [] [] [] _ _ _ _ c.done.ensures c.in_default.ensures)
