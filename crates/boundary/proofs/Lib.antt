@@ -1,5 +1,4 @@
 pub mod Crossing
-pub mod Kept
 pub mod Made
 pub mod Places
 pub mod RowLaws

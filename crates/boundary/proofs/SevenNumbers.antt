@@ -5,25 +5,30 @@ use mathlib.Core.Bool.{Bool, true, false}
 use mathlib.Core.List.{List, [], ◌∷◌}
 use mathlib.Core.Option.{none, some}
 use native.Mathlib.Omega.{arith}
-use borrow.Author.Tests.{eq-eqb, ne_eqb, le-leb, lt-leb, eqb-true, leb-true}
+use borrow.Author.Tests.{eq-eqb, ne_eqb, lt-leb, eqb-true, leb-true}
 use lib.Dec.{eqb, leb}
 use lib.ListN.{length, get_or, set}
 use Rattle.scope.specs.Bytes.{pick}
 use Rattle.scope.specs.Keeper.{Phase, idle, run, recovering, State, made_to}
-use Rattle.state.specs.State.{state_of}
+use Rattle.state.specs.State.{phase_of, state_of}
 use Rattle.state.specs.declared.Phase as code
-use Rattle.state.specs.declared.Phase.TheVariants.{Idle, Run, Recovering}
 use Rattle.state.proofs.Facts.{and_left, and_right}
 use Rattle.boundary.specs.Boundary.{phase_no, phase_in, numbers_of, is_held_state, seven, state_held, state_in}
-use Rattle.boundary.specs.Held.{held_in, made, committed, HasRest}
-use Rattle.boundary.specs.declared.numbers.Held as held
-use Rattle.boundary.specs.declared.numbers.Held.TheVariants as variants
-use Rattle.keeper.specs.declared.State as keeper
+use Rattle.boundary.specs.Held.{phase_numbered, made, committed, HasRest}
 
--- the seven numbers of a slice, as the code reads them
+picked : {A : Type 0} (t : Bool) (x y : A) → some y ≡ pick t (some x) none → (t ≡ true) × (y ≡ x)
+picked true x y e = (refl, cc)
+picked false x y e = let z : ◌≡◌ {A = ℕ} 0 1 = cc in absurd (omega arith)
 
-abbrev Read : List ℕ → code.Phase → State
-Read s p = state_of (record { cells = get_or s 0 0; slots = get_or s 1 0; h = get_or s 2 0; f = get_or s 3 0; l = get_or s 4 0; o = get_or s 5 0 }) p
+unpicked : {A : Type 0} (t : Bool) (x : A) → none ≡ pick t (some x) none → t ≡ false
+unpicked true x e = let z : ◌≡◌ {A = ℕ} 0 1 = cc in absurd (omega arith)
+unpicked false x e = refl
+
+-- a slice as the code reads it: seven numbers, the last one of a phase, and else no state
+
+pub no-phase : (n : ℕ) → 2 < n → none ≡ phase_numbered n
+unfolding phase_numbered
+no-phase n h = simp (lt-leb n 2 h)
 
 module _ (s : List ℕ) where
   pub other_length : (length s ≡ 7 → ⊥) → none ≡ state_held s
@@ -31,21 +36,15 @@ module _ (s : List ℕ) where
   other_length h = simp (ne_eqb (length s) 7 h)
 
   module _ (h : length s ≡ 7) where
-    pub other-phase : 2 < get_or s 6 0 → none ≡ state_held s
-    unfolding state_held is_held_state
-    other-phase i = simp (eq-eqb (length s) 7 h, lt-leb (get_or s 6 0) 2 i)
+    pub other-phase : none ≡ phase_numbered (get_or s 6 0) → none ≡ state_held s
+    unfolding state_held is_held_state phase_numbered
+    other-phase e = simp (eq-eqb (length s) 7 h, unpicked (leb (get_or s 6 0) 2) (phase_in (get_or s 6 0)) e)
 
-    pub held_idle : get_or s 6 0 ≡ 0 → some (Read s Idle) ≡ state_held s
-    unfolding state_held is_held_state seven phase_in state_of
-    held_idle i = simp (eq-eqb (length s) 7 h, le-leb (get_or s 6 0) 2 (omega arith), eq-eqb (get_or s 6 0) 0 i)
-
-    pub held_run : get_or s 6 0 ≡ 1 → some (Read s Run) ≡ state_held s
-    unfolding state_held is_held_state seven phase_in state_of
-    held_run i = simp (eq-eqb (length s) 7 h, le-leb (get_or s 6 0) 2 (omega arith), ne_eqb (get_or s 6 0) 0 (omega arith), eq-eqb (get_or s 6 0) 1 i)
-
-    pub held_recovering : get_or s 6 0 ≡ 2 → some (Read s Recovering) ≡ state_held s
-    unfolding state_held is_held_state seven phase_in state_of
-    held_recovering i = simp (eq-eqb (length s) 7 h, le-leb (get_or s 6 0) 2 (omega arith), ne_eqb (get_or s 6 0) 0 (omega arith), ne_eqb (get_or s 6 0) 1 (omega arith))
+    pub a-state : (p : code.Phase) → some (phase_of p) ≡ phase_numbered (get_or s 6 0)
+        → some (state_of (record { cells = get_or s 0 0; slots = get_or s 1 0; h = get_or s 2 0; f = get_or s 3 0; l = get_or s 4 0; o = get_or s 5 0 }) p) ≡ state_held s
+    unfolding state_held is_held_state phase_numbered seven state_of
+    a-state p e =
+        let w = picked (leb (get_or s 6 0) 2) (phase_in (get_or s 6 0)) (phase_of p) e in rw w.1 (simp (eq-eqb (length s) 7 h, w.0))
 
 -- what the code's answer says of the slice
 
@@ -58,22 +57,14 @@ pub record Holds (s : List ℕ) (x : State) : Type 0 where
   pub is_seven : length s ≡ 7
   pub read : x ≡ seven s
 
-module _ (r : held.Held) (s : List ℕ) (e : held_in r ≡ state_held s) where
-  pub holds-none : r ≡ variants.Nothing → is_held_state s ≡ false
+module _ (s : List ℕ) where
+  pub holds-none : none ≡ state_held s → is_held_state s ≡ false
   unfolding state_held
-  holds-none p = go (is_held_state s) (sym (ap held_in p) ∙ e)
-    where
-      go : (t : Bool) → none ≡ pick t (some (seven s)) none → t ≡ false
-      go true q = cc
-      go false q = refl
+  holds-none e = unpicked (is_held_state s) (seven s) e
 
-  pub holds-state : (x : keeper.State) → r ≡ variants.State x → Holds s (state_of x.numbers x.phase)
-  unfolding state_held is_held_state
-  holds-state x p = go (is_held_state s) refl (sym (ap held_in p) ∙ e)
-    where
-      go : (t : Bool) → is_held_state s ≡ t → some (state_of x.numbers x.phase) ≡ pick t (some (seven s)) none → Holds s (state_of x.numbers x.phase)
-      go true i q = record { is_state = i; is_seven = is_long s i; read = cc }
-      go false i q = let z : ◌≡◌ {A = ℕ} 0 1 = cc in absurd (omega arith)
+  pub holds-state : (x : State) → some x ≡ state_held s → Holds s x
+  unfolding state_held
+  holds-state x e = let w = picked (is_held_state s) (seven s) x e in record { is_state = w.0; is_seven = is_long s w.0; read = w.1 }
 
 -- seven numbers, one by one
 

@@ -3,8 +3,9 @@ ghost use Rattle.std.specs.Prelude.{[]};
 ghost use Rattle.boundary.specs.Boundary.{lent_over};
 ghost use Rattle.boundary.specs.Parts.{Looked, Viewed};
 
-use crate::numbers::{Held, state_in};
-use medium::head::table_view_number;
+use crate::numbers::state_in;
+use answer::Refusal;
+use medium::head::try_table_view;
 use medium::layout::{index, row_at};
 
 #[unsafe(no_mangle)]
@@ -18,14 +19,13 @@ pub extern "C" fn keeper_look(
     ensures { Looked n (lent_over state.now medium.now [] [] [] waiting.now) result value.new }
 {
     *value = 0;
-    let Held::State(s) = state_in(state) else {
-        return 1;
+    let Some(held) = state_in(state) else {
+        return Refusal::Unfit.number();
     };
-    let no = s.look_number(n, medium, waiting);
-    if no != 0 {
-        return no;
+    if let Err(why) = held.try_look(n, medium, waiting) {
+        return why.number();
     }
-    let numbers = s.numbers;
+    let numbers = held.numbers;
     let row = row_at(numbers.slots, n);
     if n <= numbers.f {
         *value = (32 + row) as u64;
@@ -40,9 +40,8 @@ pub extern "C" fn keeper_table_view(medium: &[u8], value: &mut u64) -> u32
     ensures { Viewed medium.now result value.new }
 {
     *value = 0;
-    let no = table_view_number(medium);
-    if no != 0 {
-        return no;
+    if let Err(why) = try_table_view(medium) {
+        return why.number();
     }
     let slots = index(number::get4(medium, 4));
     *value = (32 + 32 * slots) as u64;

@@ -1,27 +1,21 @@
 // The state as seven numbers, and answers as a number and a value.
 ghost use Rattle.std.specs.Prelude.{◌≡◌, length};
-ghost use Rattle.scope.specs.Row.{reason_no, fault_reason, fault_entry};
-ghost use Rattle.scope.specs.Keeper.{refusal_of, value_of};
-ghost use Rattle.row.specs.Row.{fault_of};
+ghost use Rattle.scope.specs.Row.{reason_no};
 ghost use Rattle.row.specs.Row as rows;
+ghost use Rattle.answer.specs.Answer.{number_in, told_in};
 ghost use Rattle.state.specs.State.{phase_of, state_of};
 ghost use Rattle.recovery.specs.Answers.{stepped};
-ghost use Rattle.keeper.specs.Answers.{answered, written_back};
+ghost use Rattle.keeper.specs.Answers.{written_back};
 ghost use Rattle.boundary.specs.Boundary.{phase_no, numbers_of, state_held, step_value, back_value, Tells};
-ghost use Rattle.boundary.specs.Held.{held_in, made, stored, committed, dropped, HasRest};
+ghost use Rattle.boundary.specs.Held.{phase_held, phase_numbered, held_in, made, stored, committed, dropped, HasRest};
 
-use keeper::{Answer, Back, State};
+use answer::Refusal;
+use keeper::{Back, State};
 use recovery::Step;
-use row::{Fault, Reason};
+use row::Reason;
 use state::{Numbers, Phase};
 
-// What a slice of numbers holds.
-#[derive(Clone, Copy)]
-pub enum Held {
-    State(State),
-    Nothing,
-}
-
+// Functions and no From, here and at a reason's number: the numbers are the C interface's, and an impl would stand in the type's own crate.
 fn phase_number(phase: Phase) -> u32
     ensures { result ≡ phase_no (phase_of phase) }
 {
@@ -32,36 +26,34 @@ fn phase_number(phase: Phase) -> u32
     }
 }
 
-// The state in a slice, or that it holds none.
-pub fn state_in(s: &[u32]) -> Held
+fn phase_numbered(number: u32) -> Option<Phase>
+    ensures { phase_held result ≡ phase_numbered number }
+{
+    match number {
+        0 => Some(Phase::Idle),
+        1 => Some(Phase::Run),
+        2 => Some(Phase::Recovering),
+        _ => None,
+    }
+}
+
+// The state in a slice, if it holds one.
+pub fn state_in(s: &[u32]) -> Option<State>
     ensures { held_in result ≡ state_held s.now }
 {
-    if s.len() != 7 {
-        return Held::Nothing;
-    }
-    let numbers = Numbers {
-        cells: s[0],
-        slots: s[1],
-        h: s[2],
-        f: s[3],
-        l: s[4],
-        o: s[5],
+    let &[cells, slots, h, f, l, o, phase] = s else {
+        return None;
     };
-    match s[6] {
-        0 => Held::State(State {
-            numbers,
-            phase: Phase::Idle,
-        }),
-        1 => Held::State(State {
-            numbers,
-            phase: Phase::Run,
-        }),
-        2 => Held::State(State {
-            numbers,
-            phase: Phase::Recovering,
-        }),
-        3..=4294967295 => Held::Nothing,
-    }
+    let phase = phase_numbered(phase)?;
+    let numbers = Numbers {
+        cells,
+        slots,
+        h,
+        f,
+        l,
+        o,
+    };
+    Some(State { numbers, phase })
 }
 
 // The state put back as seven numbers.
@@ -69,15 +61,16 @@ pub fn put_state(s: &mut [u32], state: State)
     requires { length s.old ≡ 7 }
     ensures { s.new ≡ numbers_of (state_of state.numbers state.phase) }
 {
-    let numbers = state.numbers;
-    let phase = state.phase;
-    s[0] = numbers.cells;
-    s[1] = numbers.slots;
-    s[2] = numbers.h;
-    s[3] = numbers.f;
-    s[4] = numbers.l;
-    s[5] = numbers.o;
-    s[6] = phase_number(phase);
+    let State { numbers, phase } = state;
+    s.copy_from_slice(&[
+        numbers.cells,
+        numbers.slots,
+        numbers.h,
+        numbers.f,
+        numbers.l,
+        numbers.o,
+        phase_number(phase),
+    ]);
 }
 
 // The numbers that making an entry changes, l, o and the phase, put back beside those that stand there.
@@ -85,8 +78,7 @@ pub fn put_made(s: &mut [u32], state: State)
     requires { HasRest made s.old (state_of state.numbers state.phase) }
     ensures { s.new ≡ numbers_of (state_of state.numbers state.phase) }
 {
-    let numbers = state.numbers;
-    let phase = state.phase;
+    let State { numbers, phase } = state;
     s[4] = numbers.l;
     s[5] = numbers.o;
     s[6] = phase_number(phase);
@@ -118,65 +110,34 @@ pub fn put_dropped(s: &mut [u32], state: State)
     s[2] = state.numbers.h;
 }
 
-pub fn number_of(answer: Answer) -> u32
-    ensures { result ≡ refusal_of (answered answer) }
+// The refusal's number; 0 where the call is done.
+pub fn number_of<T: Copy>(answer: Result<T, Refusal>) -> u32
+    ensures { result ≡ number_in answer }
 {
     match answer {
-        Answer::Done(_) => 0,
-        Answer::Refused(number) => number,
-    }
-}
-
-pub fn value_of(answer: Answer) -> u64
-    ensures { result ≡ value_of (answered answer) }
-{
-    match answer {
-        Answer::Done(value) => value,
-        Answer::Refused(_) => 0,
-    }
-}
-
-pub fn step_number(answer: Step) -> u32
-    ensures { result ≡ refusal_of (stepped answer) }
-{
-    match answer {
-        Step::Cell(_) => 0,
-        Step::Head => 0,
-        Step::Clean => 0,
-        Step::Refused(number) => number,
+        Ok(_) => 0,
+        Err(why) => why.number(),
     }
 }
 
 // The cell, or 2^32 for the head, or 2^32 + 1 for nothing stored.
-pub fn step_value(answer: Step) -> u64
-    ensures { result ≡ step_value (stepped answer) }
+pub fn step_value(step: Step) -> u64
+    ensures { result ≡ step_value (stepped step) }
 {
-    match answer {
-        Step::Cell(cell) => cell as u64,
-        Step::Head => 4294967296,
-        Step::Clean => 4294967297,
-        Step::Refused(_) => 0,
-    }
-}
-
-pub fn back_number(answer: Back) -> u32
-    ensures { result ≡ refusal_of (written_back answer) }
-{
-    match answer {
-        Back::Stored => 0,
-        Back::Clean => 0,
-        Back::Refused(number) => number,
+    match step {
+        Step::Cell(cell) => u64::from(cell),
+        Step::Head => 1 << 32,
+        Step::Clean => (1 << 32) + 1,
     }
 }
 
 // 1 for stored, 0 for clean.
-pub fn back_value(answer: Back) -> u64
-    ensures { result ≡ back_value (written_back answer) }
+pub fn back_value(back: Back) -> u64
+    ensures { result ≡ back_value (written_back back) }
 {
-    match answer {
+    match back {
         Back::Stored => 1,
         Back::Clean => 0,
-        Back::Refused(_) => 0,
     }
 }
 
@@ -197,28 +158,19 @@ pub fn reason_number(reason: Reason) -> u32
     }
 }
 
-fn fault_reason(fault: Fault) -> u32
-    ensures { result ≡ fault_reason (fault_of fault) }
+// The refusal's number, and what is wrong with a row put where the host says: the reason's number, 0 for none, and the entry's.
+pub fn tell<T: Copy>(answer: Result<T, Refusal>, reason: &mut u32, entry: &mut u32) -> u32
+    ensures number { result ≡ number_in answer }
+    ensures fault { Tells (told_in answer) reason.new entry.new }
 {
-    match fault {
-        Fault::None => 0,
-        Fault::At { reason, entry: _ } => reason_number(reason),
+    *reason = 0;
+    *entry = 0;
+    let Err(why) = answer else {
+        return 0;
+    };
+    if let Some(fault) = why.fault() {
+        *reason = reason_number(fault.reason);
+        *entry = fault.entry;
     }
-}
-
-fn fault_entry(fault: Fault) -> u32
-    ensures { result ≡ fault_entry (fault_of fault) }
-{
-    match fault {
-        Fault::None => 0,
-        Fault::At { reason: _, entry } => entry,
-    }
-}
-
-// What is wrong with a row, put where the host says: the reason's number, 0 for none, and the entry's.
-pub fn tell(fault: Fault, reason: &mut u32, entry: &mut u32)
-    ensures { Tells (fault_of fault) reason.new entry.new }
-{
-    *reason = fault_reason(fault);
-    *entry = fault_entry(fault);
+    why.number()
 }

@@ -3,7 +3,8 @@ ghost use Rattle.std.specs.Prelude.{◌≡◌, []};
 ghost use Rattle.scope.specs.Refusals.{RecoveryStep};
 ghost use Rattle.boundary.specs.Boundary.{step_value, handed_over, over, start_over, start_told, Tells};
 
-use crate::numbers::{Held, number_of, put_state, state_in, step_number, step_value, tell};
+use crate::numbers::{number_of, put_state, state_in, step_value, tell};
+use answer::Refusal;
 use keeper::State;
 
 #[unsafe(no_mangle)]
@@ -21,17 +22,11 @@ pub extern "C" fn keeper_recovery_start(
         let wrong = start_told state.old medium.now current.old first.old last.old waiting.now in (after ≡ start_over state.old medium.now current.old first.old last.old waiting.now) × Tells wrong reason.new entry.new }
 {
     if state.len() != 7 {
-        *reason = 0;
-        *entry = 0;
-        return 1;
+        return tell::<()>(Err(Refusal::Unfit), reason, entry);
     }
     let out = State::recovery_start(medium, current, first, last, waiting);
-    let fault = out.fault;
-    tell(fault, reason, entry);
-    let next = out.state;
-    put_state(state, next);
-    let answer = out.answer;
-    number_of(answer)
+    put_state(state, out.state);
+    tell(out.answer, reason, entry)
 }
 
 #[unsafe(no_mangle)]
@@ -43,14 +38,12 @@ pub extern "C" fn keeper_recovery_step(
 ) -> u32
     ensures { let after = handed_over result value.new state.new medium.new current.now [] [] [] in after ≡ over step_value RecoveryStep state.old medium.old current.now [] [] [] }
 {
-    let Held::State(s) = state_in(state) else {
+    let Some(held) = state_in(state) else {
         *value = 0;
-        return 1;
+        return Refusal::Unfit.number();
     };
-    let out = s.recovery_step(medium, current);
-    let next = out.state;
-    put_state(state, next);
-    let answer = out.answer;
-    *value = step_value(answer);
-    step_number(answer)
+    let out = held.recovery_step(medium, current);
+    put_state(state, out.state);
+    *value = out.answer.map_or(0, step_value);
+    number_of(out.answer)
 }

@@ -6,18 +6,15 @@ ghost use Rattle.scope.specs.Calls.{act};
 ghost use Rattle.medium.specs.Lent.{on_medium};
 ghost use Rattle.boundary.specs.Boundary.{no_value, back_value, handed_over, over, lent_over, Tells};
 
-use crate::numbers::{
-    Held, back_number, back_value, number_of, put_dropped, put_state, put_stored, state_in, tell,
-    value_of,
-};
-use keeper::Answer;
+use crate::numbers::{back_value, number_of, put_dropped, put_state, put_stored, state_in, tell};
+use answer::Refusal;
 
 #[unsafe(no_mangle)]
 pub extern "C" fn keeper_format(medium: &mut [u8], cells: u32, slots: u32) -> u32
     ensures number { result ≡ refusal_of (act (Format cells slots) (on_medium medium.old)).answer }
     ensures bytes { medium.new ≡ (act (Format cells slots) (on_medium medium.old)).keeper.medium }
 {
-    medium::head::format(medium, cells, slots)
+    number_of(medium::head::format(medium, cells, slots))
 }
 
 #[unsafe(no_mangle)]
@@ -32,26 +29,14 @@ pub extern "C" fn keeper_force(
     ensures { let after = handed_over result value.new state.new medium.new [] [] [] waiting.now in
         let wrong = told Force (lent_over state.old medium.old [] [] [] waiting.now) in (after ≡ over value_of Force state.old medium.old [] [] [] waiting.now) × Tells wrong reason.new entry.new }
 {
-    let Held::State(s) = state_in(state) else {
+    let Some(held) = state_in(state) else {
         *value = 0;
-        *reason = 0;
-        *entry = 0;
-        return 1;
+        return tell::<()>(Err(Refusal::Unfit), reason, entry);
     };
-    let out = s.force(medium, waiting);
-    let answer = out.answer;
-    if let Answer::Refused(number) = answer {
-        let fault = out.fault;
-        tell(fault, reason, entry);
-        *value = 0;
-        return number;
-    }
-    *reason = 0;
-    *entry = 0;
-    let next = out.state;
-    put_stored(state, next);
-    *value = value_of(answer);
-    number_of(answer)
+    let out = held.force(medium, waiting);
+    put_stored(state, out.state);
+    *value = out.answer.unwrap_or(0);
+    tell(out.answer, reason, entry)
 }
 
 #[unsafe(no_mangle)]
@@ -66,16 +51,14 @@ pub extern "C" fn keeper_write_back(
 ) -> u32
     ensures { let after = handed_over result value.new state.new medium.new current.now first.new last.now [] in after ≡ over back_value (WriteBack cell) state.old medium.old current.now first.old last.now [] }
 {
-    let Held::State(s) = state_in(state) else {
+    let Some(held) = state_in(state) else {
         *value = 0;
-        return 1;
+        return Refusal::Unfit.number();
     };
-    let out = s.write_back(cell, medium, current, first, last);
-    let next = out.state;
-    put_state(state, next);
-    let answer = out.answer;
-    *value = back_value(answer);
-    back_number(answer)
+    let out = held.write_back(cell, medium, current, first, last);
+    put_state(state, out.state);
+    *value = out.answer.map_or(0, back_value);
+    number_of(out.answer)
 }
 
 #[unsafe(no_mangle)]
@@ -90,21 +73,10 @@ pub extern "C" fn keeper_cut(
     ensures { let after = handed_over result 0 state.new medium.new [] first.now [] [] in
         let wrong = told (Cut p) (lent_over state.old medium.old [] first.now [] []) in (after ≡ over no_value (Cut p) state.old medium.old [] first.now [] []) × Tells wrong reason.new entry.new }
 {
-    let Held::State(s) = state_in(state) else {
-        *reason = 0;
-        *entry = 0;
-        return 1;
+    let Some(held) = state_in(state) else {
+        return tell::<()>(Err(Refusal::Unfit), reason, entry);
     };
-    let out = s.cut(p, medium, first);
-    let answer = out.answer;
-    if let Answer::Refused(number) = answer {
-        let fault = out.fault;
-        tell(fault, reason, entry);
-        return number;
-    }
-    *reason = 0;
-    *entry = 0;
-    let next = out.state;
-    put_dropped(state, next);
-    number_of(answer)
+    let out = held.cut(p, medium, first);
+    put_dropped(state, out.state);
+    tell(out.answer, reason, entry)
 }

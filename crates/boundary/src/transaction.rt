@@ -4,10 +4,8 @@ ghost use Rattle.scope.specs.Keeper.{value_of};
 ghost use Rattle.scope.specs.Refusals.{Begin, Read, Write, Commit, Abort, told};
 ghost use Rattle.boundary.specs.Boundary.{no_value, handed_over, over, lent_over, Tells};
 
-use crate::numbers::{
-    Held, number_of, put_committed, put_made, put_state, state_in, tell, value_of,
-};
-use keeper::Answer;
+use crate::numbers::{number_of, put_committed, put_made, put_state, state_in, tell};
+use answer::Refusal;
 
 #[unsafe(no_mangle)]
 pub extern "C" fn keeper_begin(
@@ -22,39 +20,26 @@ pub extern "C" fn keeper_begin(
     ensures { let after = handed_over result 0 state.new [] current.new first.new last.new waiting.new in
         let wrong = told Begin (lent_over state.old [] current.old first.old last.old waiting.old) in (after ≡ over no_value Begin state.old [] current.old first.old last.old waiting.old) × Tells wrong reason.new entry.new }
 {
-    let Held::State(s) = state_in(state) else {
-        *reason = 0;
-        *entry = 0;
-        return 1;
+    let Some(held) = state_in(state) else {
+        return tell::<()>(Err(Refusal::Unfit), reason, entry);
     };
-    let out = s.begin(current, first, last, waiting);
-    let answer = out.answer;
-    if let Answer::Refused(number) = answer {
-        let fault = out.fault;
-        tell(fault, reason, entry);
-        return number;
-    }
-    *reason = 0;
-    *entry = 0;
-    let next = out.state;
-    put_made(state, next);
-    number_of(answer)
+    let out = held.begin(current, first, last, waiting);
+    put_made(state, out.state);
+    tell(out.answer, reason, entry)
 }
 
 #[unsafe(no_mangle)]
 pub extern "C" fn keeper_read(state: &mut [u32], cell: u32, current: &[u64], value: &mut u64) -> u32
     ensures { let after = handed_over result value.new state.new [] current.now [] [] [] in after ≡ over value_of (Read cell) state.old [] current.now [] [] [] }
 {
-    let Held::State(s) = state_in(state) else {
+    let Some(held) = state_in(state) else {
         *value = 0;
-        return 1;
+        return Refusal::Unfit.number();
     };
-    let out = s.read(cell, current);
-    let next = out.state;
-    put_state(state, next);
-    let answer = out.answer;
-    *value = value_of(answer);
-    number_of(answer)
+    let out = held.read(cell, current);
+    put_state(state, out.state);
+    *value = out.answer.unwrap_or(0);
+    number_of(out.answer)
 }
 
 #[unsafe(no_mangle)]
@@ -69,14 +54,12 @@ pub extern "C" fn keeper_write(
 ) -> u32
     ensures { let after = handed_over result 0 state.new [] current.new first.new last.new waiting.new in after ≡ over no_value (Write cell new) state.old [] current.old first.old last.old waiting.old }
 {
-    let Held::State(s) = state_in(state) else {
-        return 1;
+    let Some(held) = state_in(state) else {
+        return Refusal::Unfit.number();
     };
-    let out = s.write(cell, new, current, first, last, waiting);
-    let next = out.state;
-    put_made(state, next);
-    let answer = out.answer;
-    number_of(answer)
+    let out = held.write(cell, new, current, first, last, waiting);
+    put_made(state, out.state);
+    number_of(out.answer)
 }
 
 #[unsafe(no_mangle)]
@@ -91,26 +74,14 @@ pub extern "C" fn keeper_commit(
     ensures { let after = handed_over result value.new state.new medium.new [] [] [] waiting.new in
         let wrong = told Commit (lent_over state.old medium.old [] [] [] waiting.old) in (after ≡ over value_of Commit state.old medium.old [] [] [] waiting.old) × Tells wrong reason.new entry.new }
 {
-    let Held::State(s) = state_in(state) else {
+    let Some(held) = state_in(state) else {
         *value = 0;
-        *reason = 0;
-        *entry = 0;
-        return 1;
+        return tell::<()>(Err(Refusal::Unfit), reason, entry);
     };
-    let out = s.commit(medium, waiting);
-    let answer = out.answer;
-    if let Answer::Refused(number) = answer {
-        let fault = out.fault;
-        tell(fault, reason, entry);
-        *value = 0;
-        return number;
-    }
-    *reason = 0;
-    *entry = 0;
-    let next = out.state;
-    put_committed(state, next);
-    *value = value_of(answer);
-    number_of(answer)
+    let out = held.commit(medium, waiting);
+    put_committed(state, out.state);
+    *value = out.answer.unwrap_or(0);
+    tell(out.answer, reason, entry)
 }
 
 #[unsafe(no_mangle)]
@@ -126,21 +97,10 @@ pub extern "C" fn keeper_abort(
     ensures { let after = handed_over result 0 state.new [] current.new first.new last.new waiting.new in
         let wrong = told Abort (lent_over state.old [] current.old first.old last.old waiting.old) in (after ≡ over no_value Abort state.old [] current.old first.old last.old waiting.old) × Tells wrong reason.new entry.new }
 {
-    let Held::State(s) = state_in(state) else {
-        *reason = 0;
-        *entry = 0;
-        return 1;
+    let Some(held) = state_in(state) else {
+        return tell::<()>(Err(Refusal::Unfit), reason, entry);
     };
-    let out = s.abort(current, first, last, waiting);
-    let answer = out.answer;
-    if let Answer::Refused(number) = answer {
-        let fault = out.fault;
-        tell(fault, reason, entry);
-        return number;
-    }
-    *reason = 0;
-    *entry = 0;
-    let next = out.state;
-    put_made(state, next);
-    number_of(answer)
+    let out = held.abort(current, first, last, waiting);
+    put_made(state, out.state);
+    tell(out.answer, reason, entry)
 }

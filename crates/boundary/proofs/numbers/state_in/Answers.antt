@@ -1,19 +1,16 @@
--- `boundary::numbers::state_in` meets its contract. Each exit is a case of the definition.
+-- `boundary::numbers::state_in` meets its contract. A slice of seven numbers, the last of them a phase's, is that state.
 use native.Mathlib.Omega.{arith}
-use Rattle.boundary.proofs.SevenNumbers.{other_length, other-phase, held_idle, held_run, held_recovering}
+use Rattle.boundary.proofs.SevenNumbers.{other_length, other-phase, a-state}
 use Rattle.boundary.proofs.numbers.state_in.Goals as goal
 
-pub returns-then-s-ne7 : goal.returns-then-s-ne7
-returns-then-s-ne7 c = other_length _ (omega arith)
+pub returns-in_default : goal.returns-in_default
+returns-in_default c = other_length _ (omega arith)
 
-pub returns-in-0 : goal.returns-in-0
-returns-in-0 c = held_idle c.args.s.now (omega arith) (omega arith)
+pub returns-in_default-2 : goal.returns-in_default-2
+returns-in_default-2 c = other_length _ (omega arith)
 
-pub returns-in-1 : goal.returns-in-1
-returns-in-1 c = held_run c.args.s.now (omega arith) (omega arith)
+pub returns-in_err-phase : goal.returns-in_err-phase
+returns-in_err-phase c = rw c.from_residual.ensures (other-phase _ (omega arith) c.in_err-phase.ensures)
 
-pub returns-in-2 : goal.returns-in-2
-returns-in-2 c = held_recovering c.args.s.now (omega arith) (omega arith)
-
-pub returns-in-3-to-4294967295 : goal.returns-in-3-to-4294967295
-returns-in-3-to-4294967295 c = other-phase c.args.s.now (omega arith) (omega arith)
+pub returns : goal.returns
+returns c = a-state _ (omega arith) c.in_ok-phase.phase c.in_ok-phase.ensures

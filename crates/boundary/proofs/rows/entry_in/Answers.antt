@@ -13,8 +13,5 @@ returns-in-2 c = let a = c.args in (of_commit [] a.kind a.cell a.old a.new _ _ c
 pub returns-in-3 : goal.returns-in-3
 returns-in-3 c = let a = c.args in (of_abort [] a.kind a.cell a.old a.new _ _ c.ended-in-3.ensures.1 c.ended-in-3.ensures.0 (omega arith)).0
 
-pub returns-in-0 : goal.returns-in-0
-returns-in-0 c = no_kind [] _ _ _ _ (omega arith) (omega arith) (omega arith)
-
-pub returns-in-0-2 : goal.returns-in-0-2
-returns-in-0-2 c = no_kind [] _ _ _ _ (omega arith) (omega arith) (omega arith)
+pub returns-in_default : goal.returns-in_default
+returns-in_default c = no_kind [] _ _ _ _ (omega arith) (omega arith) (omega arith)

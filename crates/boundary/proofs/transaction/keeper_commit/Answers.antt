@@ -1,32 +1,18 @@
 -- `boundary::transaction::keeper_commit` meets its contract. The library's call on the state in the slice, or the state of zeros refused.
 use mathlib.Core.Path.{refl}
+use Rattle.scope.specs.Keeper.{done}
 use Rattle.scope.specs.Refusals.{Commit}
-use Rattle.boundary.proofs.Crossing.{crossed, no-state, tells_crossed, no_state_tells}
-use Rattle.boundary.proofs.Kept.{commit_keeps, refused_crossed, done-told}
+use Rattle.boundary.proofs.Crossing.{crossed_told, no_state_told, unwrapped}
 use Rattle.boundary.proofs.Made.{commit_changes, has_rest}
 use Rattle.boundary.proofs.SevenNumbers.{holds-state, holds-none}
 use Rattle.boundary.proofs.transaction.keeper_commit.Goals as goal
 
 pub returns-in_default : goal.returns-in_default
-returns-in_default c =
-    let none = holds-none _ _ c.state_in.ensures c.in_default.is in
-    (no-state _ _ _ _ _ _ _ refl _ _ none refl tt, no_state_tells _ _ _ _ _ _ _ refl _ none tt)
-
-pub returns-in-Refused : goal.returns-in-Refused
-returns-in-Refused c =
-    let h = holds-state _ _ c.state_in.ensures _ c.in-State.is in (
-      refused_crossed _ _ _ _ _ _ _ _ h.is_state _ c.commit-out.result.state h.read _ _ _ _ _ _ _ c.in-Refused.is refl commit_keeps c.commit-out.ensures.0,
-      tells_crossed _ _ _ _ _ _ _ refl _ h.is_state _ h.read _ c.commit-out.ensures.1 _ _ c.tell.ensures,
-    )
+returns-in_default c = no_state_told _ _ _ _ _ _ _ (holds-none _ c.in_default.ensures) tt _ refl _ c.tell.ensures.number _ _ c.tell.ensures.fault
 
 pub put_committed-requires : goal.put_committed-requires
-put_committed-requires c =
-    let h = holds-state _ _ c.state_in.ensures _ c.in-State.is in
-    has_rest _ _ _ _ _ _ Commit _ commit_changes _ c.commit-out.result.state h _ _ _ _ _ _ c.commit-out.ensures.0
+put_committed-requires c = has_rest _ _ _ _ _ _ Commit _ commit_changes _ c.commit-out.result.state (holds-state _ _ c.in-Some.ensures) _ _ _ _ _ _ c.commit-out.ensures.0
 
 pub returns : goal.returns
 returns c =
-    let h = holds-state _ _ c.state_in.ensures _ c.in-State.is in (
-      crossed _ _ _ _ _ _ _ refl _ _ h.is_state _ c.commit-out.result.state _ _ _ _ _ _ _ _ _ h.read c.commit-out.ensures.0 c.number_of.ensures c.value_of.ensures c.put_committed.ensures,
-      tells_crossed _ _ _ _ _ _ _ refl _ h.is_state _ h.read _ (done-told _ _ c.commit-out.result.state _ _ _ _ _ _ _ _ _ _ _ _ c.in_default-answer.is c.commit-out.ensures.0) _ _ (refl, refl),
-    )
+    crossed_told _ _ _ _ _ _ done (λ v. refl) _ _ _ c.commit-out.result.state (holds-state _ _ c.in-Some.ensures) _ _ _ _ _ _ _ _ _ c.commit-out.ensures c.tell-2.ensures.number (unwrapped c.commit-out.result.answer _ c.unwrap_or.ensures) c.put_committed.ensures _ _ c.tell-2.ensures.fault
