@@ -18,7 +18,6 @@ fn main(rt: HostRuntime) {
     let got = io::read_full(0, &mut input);
     let mut image = [0; 40993];
     let size = files::read_file(rt, lines::nth_bytes(&input[..got], 0), &mut image);
-    let mut text = [0; 128];
-    let end = why_text::why(&image[..size], asked(&input[..got]), &mut text);
-    io::write_all(1, &text[..end]);
+    let text = why_text::why(&image[..size], asked(&input[..got]));
+    io::write_all(1, text.bytes());
 }

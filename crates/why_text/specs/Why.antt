@@ -1,13 +1,11 @@
 -- What is printed of a cell (ticket 3): `cell`, `value`, `reason`, `entry`, `end`, or the refusal's number. Refusals in document 01's order: 1, 4, 2.
-use Rattle.std.specs.Prelude.{ℕ, ◌/◌, ◌%◌, List, [], ◌∷◌, ◌++◌, ltb, eqb, get_or}
+use Rattle.std.specs.Prelude.{ℕ, ◌/◌, ◌%◌, List, [], ◌∷◌, ◌++◌, ltb, eqb, get_or, decimal, Option, Some, None}
 use Rattle.scope.specs.Bytes.{pick, number_at}
 use Rattle.scope.specs.Keeper.{is_head_ok}
 use Rattle.scope.specs.Demands.{stored_journal}
 use Rattle.recovered.specs.Recovered.{started}
 use Rattle.values.specs.Values.{values_of}
-use Rattle.text.specs.Text.{decimal, line, cell_key, refused_key, or_refused}
-use Rattle.lines.specs.declared.Decimal.{Decimal}
-use Rattle.lines.specs.declared.Decimal.TheVariants.{Is, Nothing}
+use Rattle.text.specs.Text.{line, cell_key, refused_key, or_refused}
 use Rattle.reasons.specs.declared.Reason.{Reason}
 use Rattle.reasons.specs.declared.Reason.TheVariants.{Table, Written, Restored}
 use Rattle.reasons.specs.declared.Decision.{Decision}
@@ -52,10 +50,10 @@ cell_why m c =
     or_refused (started m).answer
     (five_lines c (get_or (values_of m) c 0) (why c (number_at 4 8 m) (stored_journal (number_at 4 0 m) (number_at 4 4 m) m)))
 
-abbrev pub asked_why : List ℕ → Decimal → List ℕ
-asked_why m (Is c) = pick (ltb c (number_at 4 0 m)) (cell_why m c) (line refused_key 4)
-asked_why m Nothing = line refused_key 4
+abbrev pub asked_why : List ℕ → Option ℕ → List ℕ
+asked_why m (Some c) = pick (ltb c (number_at 4 0 m)) (cell_why m c) (line refused_key 4)
+asked_why m None = line refused_key 4
 
 -- WHAT IS SAID of the cell that a line asks for: 1 where the head is out of rule, 4 where there is no such cell or no number, 2 by recovery start
-unfoldable pub why_text : List ℕ → Decimal → List ℕ
+unfoldable pub why_text : List ℕ → Option ℕ → List ℕ
 why_text m asked = pick (is_head_ok m) (asked_why m asked) (line refused_key 1)

@@ -30,12 +30,11 @@ fn made(h: u8, entries: &[Entry]) -> [u8; 176] {
 
 // What is said of the cell that a line asks for.
 fn tell(name: &str, medium: &[u8], line: &[u8]) {
-    let mut text = [0u8; 128];
     io::write_all(1, b"asked=");
     io::write_all(1, name.as_bytes());
     io::write_all(1, b"\n");
-    let end = why_text::why(medium, line, &mut text);
-    io::write_all(1, &text[..end]);
+    let text = why_text::why(medium, line);
+    io::write_all(1, text.bytes());
 }
 
 // No entry names the cell, or a committed transaction decides.
