@@ -73,6 +73,8 @@ pub fn put_state(s: &mut [u32], state: State)
     ]);
 }
 
+// This and the next three put what their calls change and no more, beside put_state: with all seven put, force missed its bar of speed.
+//
 // The numbers that making an entry changes, l, o and the phase, put back beside those that stand there.
 pub fn put_made(s: &mut [u32], state: State)
     requires { HasRest made s.old (state_of state.numbers state.phase) }
