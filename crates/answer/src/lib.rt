@@ -37,6 +37,7 @@ pub enum Refusal {
 
 impl Refusal {
     // The papers' number.
+    #[inline(always)]
     pub fn number(self) -> u32
         ensures { result ≡ number_of self }
     {
@@ -57,6 +58,7 @@ impl Refusal {
     }
 
     // What is told beside it.
+    #[inline(always)]
     pub fn fault(self) -> Option<Fault>
         ensures { fault_of result ≡ told_with self }
     {

@@ -26,6 +26,7 @@ fn phase_number(phase: Phase) -> u32
     }
 }
 
+#[inline(always)]
 fn phase_numbered(number: u32) -> Option<Phase>
     ensures { phase_held result ≡ phase_numbered number }
 {
@@ -38,6 +39,7 @@ fn phase_numbered(number: u32) -> Option<Phase>
 }
 
 // The state in a slice, if it holds one.
+#[inline(always)]
 pub fn state_in(s: &[u32]) -> Option<State>
     ensures { held_in result ≡ state_held s.now }
 {
@@ -57,6 +59,7 @@ pub fn state_in(s: &[u32]) -> Option<State>
 }
 
 // The state put back as seven numbers.
+#[inline(always)]
 pub fn put_state(s: &mut [u32], state: State)
     requires { length s.old ≡ 7 }
     ensures { s.new ≡ numbers_of (state_of state.numbers state.phase) }
@@ -76,6 +79,7 @@ pub fn put_state(s: &mut [u32], state: State)
 // This and the next three put what their calls change and no more, beside put_state: with all seven put, force missed its bar of speed.
 //
 // The numbers that making an entry changes, l, o and the phase, put back beside those that stand there.
+#[inline(always)]
 pub fn put_made(s: &mut [u32], state: State)
     requires { HasRest made s.old (state_of state.numbers state.phase) }
     ensures { s.new ≡ numbers_of (state_of state.numbers state.phase) }
@@ -87,6 +91,7 @@ pub fn put_made(s: &mut [u32], state: State)
 }
 
 // The number that force changes: f.
+#[inline(always)]
 pub fn put_stored(s: &mut [u32], state: State)
     requires { HasRest stored s.old (state_of state.numbers state.phase) }
     ensures { s.new ≡ numbers_of (state_of state.numbers state.phase) }
@@ -95,6 +100,7 @@ pub fn put_stored(s: &mut [u32], state: State)
 }
 
 // The numbers that a commit changes, which makes an entry and stores: f, l, o and the phase.
+#[inline(always)]
 pub fn put_committed(s: &mut [u32], state: State)
     requires { HasRest committed s.old (state_of state.numbers state.phase) }
     ensures { s.new ≡ numbers_of (state_of state.numbers state.phase) }
@@ -105,6 +111,7 @@ pub fn put_committed(s: &mut [u32], state: State)
 }
 
 // The number that a cut changes: h.
+#[inline(always)]
 pub fn put_dropped(s: &mut [u32], state: State)
     requires { HasRest dropped s.old (state_of state.numbers state.phase) }
     ensures { s.new ≡ numbers_of (state_of state.numbers state.phase) }
@@ -113,6 +120,7 @@ pub fn put_dropped(s: &mut [u32], state: State)
 }
 
 // The refusal's number; 0 where the call is done.
+#[inline(always)]
 pub fn number_of<T: Copy>(answer: Result<T, Refusal>) -> u32
     ensures { result ≡ number_in answer }
 {
@@ -161,6 +169,7 @@ pub fn reason_number(reason: Reason) -> u32
 }
 
 // The refusal's number, and what is wrong with a row put where the host says: the reason's number, 0 for none, and the entry's.
+#[inline(always)]
 pub fn tell<T: Copy>(answer: Result<T, Refusal>, reason: &mut u32, entry: &mut u32) -> u32
     ensures number { result ≡ number_in answer }
     ensures fault { Tells (told_in answer) reason.new entry.new }

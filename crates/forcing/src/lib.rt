@@ -14,6 +14,7 @@ use row::Entry;
 use state::Numbers;
 
 // Commit's first step: entry l + 1, a commit, is built in its waiting row, and the transaction is closed. Costs one row.
+#[inline(always)]
 pub fn make_commit(numbers: Numbers, waiting: &mut [u8]) -> Numbers
     requires { (Rows waiting.old 0 numbers.slots 1) × (numbers.l < 4294967295) }
     ensures { let before = waiting.old in
@@ -30,6 +31,7 @@ pub fn make_commit(numbers: Numbers, waiting: &mut [u8]) -> Numbers
 }
 
 // Force's one-store step: entry f + 1 is stored from its waiting row. Costs one row; stores that row.
+#[inline(always)]
 pub fn force_step(numbers: Numbers, medium: &mut [u8], waiting: &[u8]) -> Numbers
     requires { (Storing numbers medium.old waiting.now) × (numbers.f < numbers.l) }
     ensures { let before = medium.old in
@@ -43,6 +45,7 @@ pub fn force_step(numbers: Numbers, medium: &mut [u8], waiting: &[u8]) -> Number
 }
 
 // Force's steps until f = l. Costs the rows that are not stored, once; stores each of them, in rising order.
+#[inline(always)]
 pub fn force_all(numbers: Numbers, medium: &mut [u8], waiting: &[u8]) -> Numbers
     requires { Storing numbers medium.old waiting.now }
     ensures { let before = medium.old in

@@ -13,6 +13,7 @@ use medium::layout::{index, row_at};
 use row::{Entry, Reason};
 
 // The row that begins at a place, as entry n of a table of N cells.
+#[inline(always)]
 pub fn entry_from(rows: &[u8], at: usize, cells: u32, n: u32) -> Result<Entry, Reason>
     requires { at + 32 ≤ length rows.now }
     ensures entry { meaning result ≡ read_row cells n (take 32 (drop at rows.now)) }
@@ -22,6 +23,7 @@ pub fn entry_from(rows: &[u8], at: usize, cells: u32, n: u32) -> Result<Entry, R
 }
 
 // The row of entry n, of C rows that begin at a place, as that entry of a table of N cells.
+#[inline(always)]
 pub fn entry_at(rows: &[u8], base: usize, slots: u32, cells: u32, n: u32) -> Result<Entry, Reason>
     requires { Rows rows.now base slots n }
     ensures entry { meaning result ≡ entry_in rows.now base slots cells n }
@@ -47,6 +49,7 @@ pub fn next_row(slots: u32, at: usize) -> usize
 }
 
 // Entry n, built in its waiting row.
+#[inline(always)]
 pub fn append(waiting: &mut [u8], slots: u32, n: u32, what: Entry)
     requires { Rows waiting.old 0 slots n }
     ensures { waiting.new ≡ put waiting.old (row_at slots n) (row_bytes n (entry what)) }
@@ -55,6 +58,7 @@ pub fn append(waiting: &mut [u8], slots: u32, n: u32, what: Entry)
 }
 
 // The waiting row of entry n, stored on the medium. As four words: copy_from_slice asks first whether the two overlap, and force is at its bar.
+#[inline(always)]
 pub fn store_row(medium: &mut [u8], waiting: &[u8], slots: u32, n: u32)
     requires { (Rows medium.old 32 slots n) × (Rows waiting.now 0 slots n) }
     ensures { medium.new ≡ put medium.old (32 + row_at slots n) (take 32 (drop (row_at slots n) waiting.now)) }

@@ -35,6 +35,7 @@ pub enum Back {
     Clean,
 }
 
+#[inline(always)]
 fn done<T>(answer: T, numbers: Numbers, phase: Phase) -> Outcome<T>
     ensures { result ≡ record { answer = Ok answer; state = record { numbers = numbers; phase = phase } } }
 {
@@ -45,6 +46,7 @@ fn done<T>(answer: T, numbers: Numbers, phase: Phase) -> Outcome<T>
 }
 
 impl State {
+    #[inline(always)]
     fn refused<T>(self, why: Refusal) -> Outcome<T>
         ensures { result ≡ record { answer = Err why; state = self } }
     {

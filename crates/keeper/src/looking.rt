@@ -12,6 +12,7 @@ use medium::layout::row_at;
 
 impl State {
     // Look: entry n's 32 bytes, a part of the medium when n <= f, else of the waiting rows. Refuses 1, 10, 11. Costs no byte.
+    #[inline(always)]
     pub fn try_look<'a>(
         self,
         n: u32,

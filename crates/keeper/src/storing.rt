@@ -16,6 +16,7 @@ use state::Numbers;
 impl State {
     // Force: stores entry f+1 from the waiting rows and answers its number; with f = l it stores nothing and answers 0.
     // Refuses 1, 10, 7. Costs one row; stores that row.
+    #[inline(always)]
     pub fn force(self, medium: &mut [u8], waiting: &[u8]) -> Outcome<u64>
         ensures { let before = handed self medium.old [] [] [] waiting.now in
             let after = leaves (answer_of done result.answer) result.state medium.new [] [] [] waiting.now in
@@ -34,6 +35,7 @@ impl State {
 
     // Write-back: with `first` 0 the cell is clean; else its current value is stored and `first` becomes 0. Refuses 1, 10, 4, 8.
     // Costs one cell; stores that cell.
+    #[inline(always)]
     pub fn write_back(
         self,
         cell: u32,
@@ -61,6 +63,7 @@ impl State {
     }
 
     // Cut to p: the head is stored with h = p; p may be h. Refuses 1, 10, 9, 7, 9. Goes once over the cells' `first`; stores the head.
+    #[inline(always)]
     pub fn cut(self, p: u32, medium: &mut [u8], first: &[u32]) -> Outcome<u64>
         ensures { let before = handed self medium.old [] first.now [] [] in
             let after = leaves (answer_of done result.answer) result.state medium.new [] first.now [] [] in

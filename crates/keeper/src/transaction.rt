@@ -17,6 +17,7 @@ use state::{Numbers, Phase};
 
 impl State {
     // Read: answers the cell's current value. Refuses 1, 10, 3, 4. Costs one cell.
+    #[inline(always)]
     pub fn read(self, cell: u32, current: &[u64]) -> Outcome<u64>
         ensures { let before = handed self [] current.now [] [] [] in
             let after = leaves (answer_of done result.answer) result.state [] current.now [] [] [] in
@@ -31,6 +32,7 @@ impl State {
 
     // Write: appends an update with the old current value and makes the new one current; sets `last`, and `first` where it was 0.
     // Refuses 1, 10, 3, 4, 5, 6. Costs one row and one cell.
+    #[inline(always)]
     pub fn write(
         self,
         cell: u32,
@@ -67,6 +69,7 @@ impl State {
     // Commit: appends the commit entry, storing nothing, then takes force's step until f = l, and answers its number, l+1. The transaction is
     // durable once the stores are, which the host brings to its medium one by one, rows f+1 to l+1 in that order.
     // Refuses 1, 10, 3, 7, before anything is changed. Goes twice over the rows that are not stored: judged, then stored.
+    #[inline(always)]
     pub fn commit(self, medium: &mut [u8], waiting: &mut [u8]) -> Outcome<u64>
         ensures { let before = handed self medium.old [] [] [] waiting.old in
             let after = leaves (answer_of done result.answer) result.state medium.new [] [] [] waiting.new in
@@ -83,6 +86,7 @@ impl State {
 
     // Abort: in run appends the abort entry and restores the transaction's cells in falling order; in idle it does nothing.
     // Refuses 1, 10, 7. Goes twice over the transaction's rows: judged, then restored.
+    #[inline(always)]
     pub fn abort(
         self,
         current: &mut [u64],
@@ -106,6 +110,7 @@ impl State {
 
     // Begin: opens a transaction; in run it first does what abort does. Refuses 1, 10, 7, 5, 6. In idle it touches no row; in run it
     // costs what abort does.
+    #[inline(always)]
     pub fn begin(
         self,
         current: &mut [u64],
@@ -129,6 +134,7 @@ impl State {
     }
 
     // The abort entry appended, the open transaction's cells restored, and the phase after it.
+    #[inline(always)]
     fn roll_back(
         self,
         next: Phase,

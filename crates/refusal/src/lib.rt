@@ -24,6 +24,7 @@ use state::{Numbers, Phase};
 use workspace::{Due, any_first, lowest_fault};
 
 // A sound state, and the medium and the waiting rows as long as its numbers say.
+#[inline(always)]
 fn fit_rows(numbers: Numbers, phase: Phase, medium: &[u8], waiting: &[u8]) -> bool
     ensures { result ≡ (sound (state_of numbers phase) && lent Commit (lent_to numbers phase medium.now [] [] [] waiting.now)) }
 {
@@ -31,6 +32,7 @@ fn fit_rows(numbers: Numbers, phase: Phase, medium: &[u8], waiting: &[u8]) -> bo
 }
 
 // A sound state, and the workspaces as long as its numbers say.
+#[inline(always)]
 fn fit_workspaces(
     numbers: Numbers,
     phase: Phase,
@@ -47,6 +49,7 @@ fn fit_workspaces(
 }
 
 // A sound state, and the medium, current values, `first` and `last` as long as its numbers say.
+#[inline(always)]
 fn fit_table(
     numbers: Numbers,
     phase: Phase,
@@ -66,6 +69,7 @@ fn fit_table(
 }
 
 // A sound state, and the medium and `first` as long as its numbers say.
+#[inline(always)]
 fn fit_first(numbers: Numbers, phase: Phase, medium: &[u8], first: &[u32]) -> bool
     ensures { result ≡ (sound (state_of numbers phase) && lent (Cut 0) (lent_to numbers phase medium.now [] first.now [] [])) }
 {
@@ -73,6 +77,7 @@ fn fit_first(numbers: Numbers, phase: Phase, medium: &[u8], first: &[u32]) -> bo
 }
 
 // 1, 10: the first tests of every call.
+#[inline(always)]
 fn ready(fit: bool, phase: Phase) -> Result<(), Refusal>
     ensures { Asks result (ready_tests fit phase) }
 {
@@ -86,6 +91,7 @@ fn ready(fit: bool, phase: Phase) -> Result<(), Refusal>
 }
 
 // 1, 10, 3.
+#[inline(always)]
 fn in_run(fit: bool, phase: Phase) -> Result<(), Refusal>
     ensures { Asks result (run_tests fit phase) }
 {
@@ -97,6 +103,7 @@ fn in_run(fit: bool, phase: Phase) -> Result<(), Refusal>
 }
 
 // 4.
+#[inline(always)]
 fn in_table(numbers: Numbers, cell: u32) -> Result<(), Refusal>
     ensures { Asks result (cell_tests numbers cell) }
 {
@@ -107,6 +114,7 @@ fn in_table(numbers: Numbers, cell: u32) -> Result<(), Refusal>
 }
 
 // 5, 6.
+#[inline(always)]
 fn has_room(numbers: Numbers, phase: Phase) -> Result<(), Refusal>
     ensures { Asks result (room_tests numbers phase) }
 {
@@ -120,6 +128,7 @@ fn has_room(numbers: Numbers, phase: Phase) -> Result<(), Refusal>
 }
 
 // 7: a waiting row from + 1, .., l does not hold what is due.
+#[inline(always)]
 fn rows_hold(numbers: Numbers, waiting: &[u8], from: u32, due: Due) -> Result<(), Refusal>
     requires { Rows waiting.now 0 numbers.slots 1 }
     ensures { Tells result (lowest_fault (wrong_due due waiting.now numbers.slots numbers.cells) (numbers.l - from) from) }
@@ -130,6 +139,7 @@ fn rows_hold(numbers: Numbers, waiting: &[u8], from: u32, due: Due) -> Result<()
     }
 }
 
+#[inline(always)]
 pub fn read(numbers: Numbers, phase: Phase, cell: u32, current: &[u64]) -> Result<(), Refusal>
     ensures { Judges result (Read cell) (lent_to numbers phase [] current.now [] [] []) }
 {
@@ -138,6 +148,7 @@ pub fn read(numbers: Numbers, phase: Phase, cell: u32, current: &[u64]) -> Resul
     in_table(numbers, cell)
 }
 
+#[inline(always)]
 pub fn write(
     numbers: Numbers,
     phase: Phase,
@@ -155,6 +166,7 @@ pub fn write(
     has_room(numbers, phase)
 }
 
+#[inline(always)]
 pub fn commit(numbers: Numbers, phase: Phase, medium: &[u8], waiting: &[u8]) -> Result<(), Refusal>
     ensures { Judges result Commit (lent_to numbers phase medium.now [] [] [] waiting.now) }
 {
@@ -164,6 +176,7 @@ pub fn commit(numbers: Numbers, phase: Phase, medium: &[u8], waiting: &[u8]) -> 
 }
 
 // 7: in run a waiting row of o+1 to l isn't that update.
+#[inline(always)]
 fn open_rows(numbers: Numbers, phase: Phase, waiting: &[u8]) -> Result<(), Refusal>
     requires { Rows waiting.now 0 numbers.slots 1 }
     ensures { Tells result (open_fault_in numbers phase waiting.now) }
@@ -174,6 +187,7 @@ fn open_rows(numbers: Numbers, phase: Phase, waiting: &[u8]) -> Result<(), Refus
     rows_hold(numbers, waiting, numbers.o, Due::Updates)
 }
 
+#[inline(always)]
 pub fn abort(
     numbers: Numbers,
     phase: Phase,
@@ -189,6 +203,7 @@ pub fn abort(
     open_rows(numbers, phase, waiting)
 }
 
+#[inline(always)]
 pub fn begin(
     numbers: Numbers,
     phase: Phase,
@@ -203,6 +218,7 @@ pub fn begin(
     has_room(numbers, phase)
 }
 
+#[inline(always)]
 pub fn force(numbers: Numbers, phase: Phase, medium: &[u8], waiting: &[u8]) -> Result<(), Refusal>
     ensures { Judges result Force (lent_to numbers phase medium.now [] [] [] waiting.now) }
 {
@@ -218,6 +234,7 @@ pub fn force(numbers: Numbers, phase: Phase, medium: &[u8], waiting: &[u8]) -> R
     }
 }
 
+#[inline(always)]
 pub fn write_back(
     numbers: Numbers,
     phase: Phase,
@@ -255,6 +272,7 @@ fn cut_row(numbers: Numbers, p: u32, medium: &[u8]) -> Result<(), Refusal>
     }
 }
 
+#[inline(always)]
 pub fn cut(
     numbers: Numbers,
     phase: Phase,
@@ -276,6 +294,7 @@ pub fn cut(
     Ok(())
 }
 
+#[inline(always)]
 pub fn look(
     numbers: Numbers,
     phase: Phase,

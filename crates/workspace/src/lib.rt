@@ -41,6 +41,7 @@ pub fn first_mark(old: u32, n: u32) -> u32
 }
 
 // The cell gets the value by entry n, which sets `last`, and `first` where it was 0.
+#[inline(always)]
 pub fn assign(
     current: &mut [u64],
     first: &mut [u32],
@@ -60,6 +61,7 @@ pub fn assign(
 }
 
 // The update of waiting row m restored, by entry n.
+#[inline(always)]
 fn restore(
     waiting: &[u8],
     slots: u32,
@@ -84,6 +86,7 @@ fn restore(
 }
 
 // The updates of waiting rows l, l - 1, .., o + 1 restored, in falling order, by entry n. Goes once over those rows.
+#[inline(always)]
 pub fn rollback(
     waiting: &[u8],
     slots: u32,
@@ -105,6 +108,7 @@ pub fn rollback(
 }
 
 // Whether waiting row m holds what is due.
+#[inline(always)]
 fn is_due(waiting: &[u8], slots: u32, cells: u32, m: u32, due: Due) -> bool
     requires { Rows waiting.now 0 slots m }
     ensures { result ≡ is_due due (entry_in waiting.now 0 slots cells m) }
@@ -116,6 +120,7 @@ fn is_due(waiting: &[u8], slots: u32, cells: u32, m: u32, due: Due) -> bool
 }
 
 // What is wrong with waiting row m, which must hold what is due.
+#[inline(never)]
 fn row_fault(waiting: &[u8], slots: u32, cells: u32, m: u32, due: Due) -> Option<Fault>
     requires { Rows waiting.now 0 slots m }
     ensures { fault_of result ≡ fault_at m (wrong_due due waiting.now slots cells m) faultless }
@@ -132,6 +137,7 @@ fn row_fault(waiting: &[u8], slots: u32, cells: u32, m: u32, due: Due) -> Option
 
 // What is wrong with the lowest of waiting rows from + 1, .., to that doesn't hold what is due. Goes over those rows up to that one. The loop
 // asks no more than whether: what is wrong is asked of that row alone.
+#[inline(always)]
 pub fn lowest_fault(
     waiting: &[u8],
     slots: u32,
