@@ -64,7 +64,7 @@ fn meaning(why: Refusal) -> bool {
     match why {
         Refusal::Malformed(fault) | Refusal::BadRow(fault) => {
             say(b"# ");
-            faults::print(fault.entry, fault.reason);
+            faults::print(fault);
             say(b"\n")
         }
         Refusal::Unfit | Refusal::NoCell => say(b"# no such cell\n"),
