@@ -55,7 +55,7 @@ fn add_named(rt: HostRuntime, name: &[u8], image: &mut [u8], month: &mut Month) 
     }
 }
 
-// The image is one byte longer than the largest medium, so that an overlong one is seen and refused.
+// The image is one byte longer than the largest medium, so that an overlong one is seen and refused; `files` fills it and answers how much of it.
 fn main(rt: HostRuntime) {
     let mut image = [0; 40993];
     let mut line = ArrayVec::new();

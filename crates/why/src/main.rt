@@ -13,6 +13,7 @@ fn asked(input: &[u8]) -> &[u8] {
 }
 
 // The image is one byte longer than the largest medium, so that an overlong one is seen and refused. Of a file that can't be read it has no byte.
+// `io` and `files` fill a slice and answer how much of it, and only that is handed on.
 fn main(rt: HostRuntime) {
     let mut input = io::large_buffer();
     let got = io::read_full(0, &mut input);
