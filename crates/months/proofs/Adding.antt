@@ -22,6 +22,8 @@ use Rattle.values.specs.declared.Unread.{Unread}
 use Rattle.values.specs.Values.{Values, answer_of}
 use Rattle.months.specs.declared.Met.{Met}
 use Rattle.months.specs.declared.Month.{Month}
+use Rattle.months.specs.declared.releases.Releases.{Releases}
+use Rattle.months.specs.Releases.{in_use}
 use Rattle.months.specs.Month.{more, release_of, place_from, place, places, releases_of, counts_of, Tally, tally, met_after, add_at, add_cell, add_cells, add_store, add_medium}
 
 pub more-one : (x : ℕ) → x < 18446744073709551615 → x + 1 ≡ more x
@@ -95,6 +97,10 @@ module _ (xs : List Met) (r : ℕ) where
 abbrev pub blank : Met
 blank = record { release = 0; count = 0 }
 
+-- a release with one more cell
+abbrev pub again : Met → Met
+again c = record { release = c.release; count = more c.count }
+
 module _ (f : Met → ℕ) (xs : List Met) where
   -- the numbers that are in use
   abbrev ys : List ℕ
@@ -141,10 +147,10 @@ module _ (v : ℕ) (m : Month) where
 
   module _ (full : v ≡ 0 → ⊥) (r : ℕ) (qr : r ≡ release_of v) (cells : ℕ) (qc : cells ≡ more m.cells) where
     abbrev met : List Met
-    met = m.met.items
+    met = in_use m.met
 
-    abbrev after : List Met → ℕ → Month
-    after items others = record { stores = m.stores; refused = m.refused; cells = cells; met = record { items = items }; others = others }
+    abbrev after : Releases → ℕ → Month
+    after now others = record { stores = m.stores; refused = m.refused; cells = cells; met = now; others = others }
 
     -- with so many met, and these at their places
     abbrev left : ℕ → List ℕ → List ℕ → Tally
@@ -155,24 +161,25 @@ module _ (v : ℕ) (m : Month) where
     unfolding add_cell add_at tally
     at_place i q h = rw (ne_eqb v 0 full, ← qr, ← q, lt-ltb i 64 h)
 
-    pub cell-counted : (i : ℕ) → position (IsOf r) met ≡ Some i → length met ≤ 64 → (n : ℕ) → n ≡ more (get_or met i blank).count
-        → (items : List Met) → items ≡ set met i (record { release = (get_or met i blank).release; count = n }) → tally (after items m.others) ≡ add_cell v (tally m)
+    pub cell-counted : (i : ℕ) → position (IsOf r) met ≡ Some i → length met ≤ 64 → (now : Releases) → in_use now ≡ set met i (again (get_or met i blank)) → tally (after now m.others) ≡ add_cell v (tally m)
     unfolding tally
-    cell-counted i e few n qn items s =
-        let c : Met = record { release = (get_or met i blank).release; count = n } in
+    cell-counted i e few now s =
+        let items = in_use now in
+        let c = again (get_or met i blank) in
         let p = position-Some (IsOf r) met i blank e in
         let releases : releases_of items ≡ set (releases_of met) i r =
         ap releases_of s ∙ places_set (λ x. x.release) met i c p.0 ∙ ap (set (releases_of met) i) (eqb-true (get_or met i blank).release r p.1) in
         let counts : counts_of items ≡ set (counts_of met) i (more (get_or (counts_of met) i 0)) =
-        ap counts_of s ∙ places_set (λ x. x.count) met i c p.0 ∙ ap (set (counts_of met) i) (qn ∙ ap more (sym (places_read (λ x. x.count) met i p.0))) in
+        ap counts_of s ∙ places_set (λ x. x.count) met i c p.0 ∙ ap (set (counts_of met) i) (ap more (sym (places_read (λ x. x.count) met i p.0))) in
         let long : length items ≡ met_after i (length met) = ap length s ∙ length-set met i c ∙ met_stays i (length met) p.0 in
         (λ j. record { stores = m.stores; refused = m.refused; cells = qc j; met = long j; others = m.others; releases = releases j; counts = counts j })
         ∙ at_place i (place-some met r i e) (omega (arith, few, p.0))
 
-    pub cell-new : position (IsOf r) met ≡ None → length met < 64 → (items : List Met) → items ≡ met ++ record { release = r; count = 1 } ∷ []
-        → tally (after items m.others) ≡ add_cell v (tally m)
+    pub cell-new : position (IsOf r) met ≡ None → length met < 64 → (now : Releases) → in_use now ≡ met ++ record { release = r; count = 1 } ∷ []
+        → tally (after now m.others) ≡ add_cell v (tally m)
     unfolding tally more
-    cell-new e room items s =
+    cell-new e room now s =
+        let items = in_use now in
         let c : Met = record { release = r; count = 1 } in
         let n = length met in
         let releases : releases_of items ≡ set (releases_of met) n r = ap releases_of s ∙ places_push (λ x. x.release) met room c in
@@ -182,7 +189,7 @@ module _ (v : ℕ) (m : Month) where
         (λ j. record { stores = m.stores; refused = m.refused; cells = qc j; met = long j; others = m.others; releases = releases j; counts = counts j })
         ∙ at_place n (place_none met r e) room
 
-    pub cell_other : position (IsOf r) met ≡ None → 64 ≤ length met → (others : ℕ) → others ≡ more m.others → tally (after met others) ≡ add_cell v (tally m)
+    pub cell_other : position (IsOf r) met ≡ None → 64 ≤ length met → (others : ℕ) → others ≡ more m.others → tally (after m.met others) ≡ add_cell v (tally m)
     unfolding add_cell add_at tally
     cell_other e h others qo = let q = place_none met r e in rw (ne_eqb v 0 full, ← qr, ← q, le-ltb (length met) 64 h, qc, qo)
 

@@ -1,2 +1,3 @@
+pub mod Releases
 pub mod Month
 pub mod Claim

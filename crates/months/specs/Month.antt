@@ -7,6 +7,7 @@ use Rattle.recovered.specs.Recovered.{started}
 use Rattle.values.specs.Values.{values_of}
 use Rattle.months.specs.declared.Month.{Month}
 use Rattle.months.specs.declared.Met.{Met}
+use Rattle.months.specs.Releases.{in_use}
 
 -- one more, in 64 bits
 unfoldable pub more : ℕ → ℕ
@@ -51,10 +52,10 @@ tally m =
       stores = m.stores;
       refused = m.refused;
       cells = m.cells;
-      met = length m.met.items;
+      met = length (in_use m.met);
       others = m.others;
-      releases = releases_of m.met.items;
-      counts = counts_of m.met.items;
+      releases = releases_of (in_use m.met);
+      counts = counts_of (in_use m.met);
     }
 
 -- before any file

@@ -1,11 +1,14 @@
 // A month's end: the non-empty cells of many recovered media, counted by release. The first 64 releases met have counts of their own, in the order met.
 #![tactic(auto)]
 
-ghost use Rattle.std.specs.Prelude.{◌≡◌, ◌==◌, position};
-ghost use Rattle.months.specs.Month.{release_of, untallied, tally, add_cell, add_cells, add_medium};
+mod releases;
 
-use arrayvec::ArrayVec;
+ghost use Rattle.std.specs.Prelude.{◌≡◌, ◌==◌, position};
+ghost use Rattle.months.specs.Releases.{in_use};
+ghost use Rattle.months.specs.Month.{more, release_of, untallied, tally, add_cell, add_cells, add_medium};
+
 use recovered::head_number;
+pub use releases::Releases;
 use values::values;
 
 // A release that was met, as one number, and how many cells have it.
@@ -15,13 +18,26 @@ pub struct Met {
     pub count: u64,
 }
 
+impl Met {
+    // With one more cell.
+    #[tactic(auto, using(crate::proofs::Adding::more_saturating))]
+    fn again(self) -> Self
+        ensures { result ≡ record { release = self.release; count = more self.count } }
+    {
+        Met {
+            count: self.count.saturating_add(1),
+            ..self
+        }
+    }
+}
+
 // How many files were named, how many of them refused, how many cells counted, the releases that have counts, and how many cells have others.
-#[derive(Drop)]
+#[derive(Clone, Copy)]
 pub struct Month {
     pub stores: u64,
     pub refused: u64,
     pub cells: u64,
-    pub met: ArrayVec<Met, 64>,
+    pub met: Releases,
     pub others: u64,
 }
 
@@ -35,6 +51,13 @@ fn release_of(value: u64) -> u32
     65536 * major + minor
 }
 
+// Where a release stands among these.
+pub fn place_of(met: &[Met], release: u32) -> Option<usize>
+    ensures { result ≡ position (λ c. c.release == release) met.now }
+{
+    met.iter().position(|counted| counted.release == release)
+}
+
 impl Month {
     // Before any file.
     pub fn new() -> Self
@@ -44,18 +67,16 @@ impl Month {
             stores: 0,
             refused: 0,
             cells: 0,
-            met: ArrayVec::new(),
+            met: Releases::new(),
             others: 0,
         }
     }
 
     // Where a release stands among those met.
     pub fn place_of(&self, release: u32) -> Option<usize>
-        ensures { result ≡ position (λ c. c.release == release) self.now.met.items }
+        ensures { result ≡ position (λ c. c.release == release) (in_use self.now.met) }
     {
-        self.met
-            .iter()
-            .position(|counted| counted.release == release)
+        place_of(self.met.as_slice(), release)
     }
 
     // A cell counted; an empty one is not.
@@ -70,8 +91,8 @@ impl Month {
         self.cells = self.cells.saturating_add(1);
         match self.place_of(release) {
             Some(place) => {
-                let counted = &mut self.met[place];
-                counted.count = counted.count.saturating_add(1);
+                let counted = self.met.as_slice()[place].again();
+                self.met.replace(place, counted);
             }
             None if self.met.is_full() => self.others = self.others.saturating_add(1),
             None => self.met.push(Met { release, count: 1 }),
