@@ -58,22 +58,21 @@ pub fn state_in(s: &[u32]) -> Option<State>
     Some(State { numbers, phase })
 }
 
-// The state put back as seven numbers.
+// The state put back as seven numbers, store by store: as an array copied it is first built in memory and then read in wider words, and read took
+// 1.4 to 1.8 times as long.
 #[inline(always)]
 pub fn put_state(s: &mut [u32], state: State)
     requires { length s.old ≡ 7 }
     ensures { s.new ≡ numbers_of (state_of state.numbers state.phase) }
 {
     let State { numbers, phase } = state;
-    s.copy_from_slice(&[
-        numbers.cells,
-        numbers.slots,
-        numbers.h,
-        numbers.f,
-        numbers.l,
-        numbers.o,
-        phase_number(phase),
-    ]);
+    s[0] = numbers.cells;
+    s[1] = numbers.slots;
+    s[2] = numbers.h;
+    s[3] = numbers.f;
+    s[4] = numbers.l;
+    s[5] = numbers.o;
+    s[6] = phase_number(phase);
 }
 
 // This and the next three put what their calls change and no more, beside put_state: with all seven put, force missed its bar of speed.

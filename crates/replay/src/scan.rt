@@ -17,7 +17,9 @@ pub fn at_most(slots: u32, h: u32) -> u32
     slots.min(u32::MAX - h)
 }
 
-// Whether one of the `count` rows after n holds its number. Looks at each row's number, up to the first that does.
+// Whether one of the `count` rows after n holds its number. Looks at each row's number, up to the first that does. A call of its own: within
+// recovery start, whose other numbers fill the registers, its counters would lie in memory.
+#[inline(never)]
 pub fn any_holds(medium: &[u8], slots: u32, n: u32, count: u32) -> bool
     requires { (Rows medium.now 32 slots 1) × (n + count < 4294967296) }
     ensures { result ≡ any_holds (rows_of slots medium.now) count n }
