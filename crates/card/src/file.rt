@@ -38,7 +38,7 @@ pub struct Session {
 
 // Why a file stays as it is: sizes out of range; a length that is not what it was when it was opened; neither empty nor a medium; a medium
 // that the order does not say may be erased. Or the file did not take what was stored.
-#[derive(Drop)]
+#[derive(Clone, Copy)]
 pub enum Unformatted {
     Sizes,
     OtherLength,
@@ -59,15 +59,18 @@ fn opened(rt: HostRuntime, path: &str) -> std::io::Result<File> {
 }
 
 impl Session {
-    // Opens the file and reads it, before recovery; nothing is stored.
-    pub fn open(rt: HostRuntime, path: &str, medium: &mut [u8]) -> std::io::Result<Session> {
-        let file = opened(rt, path)?;
-        let size = io::read_full(file.as_raw_fd(), medium);
+    // Opens the file, before recovery; nothing of it is read yet, and nothing is stored.
+    pub fn open(rt: HostRuntime, path: &str) -> std::io::Result<Session> {
         Ok(Session {
             state: ZEROS,
-            file,
-            size,
+            file: opened(rt, path)?,
+            size: 0,
         })
+    }
+
+    // Reads the file that was just opened, as many bytes as the medium's image holds.
+    pub fn read(&mut self, medium: &mut [u8]) {
+        self.size = io::read_full(self.file.as_raw_fd(), medium);
     }
 
     // Makes the file, empty; a name that is taken is refused.
@@ -76,11 +79,7 @@ impl Session {
             .write(true)
             .create_new(true)
             .open(&rt, path)?;
-        Ok(Session {
-            state: ZEROS,
-            file: opened(rt, path)?,
-            size: 0,
-        })
+        Session::open(rt, path)
     }
 
     // A call, made on what is lent; what it stored is not in the file yet.

@@ -13,7 +13,7 @@ const SECTOR: usize = 512;
 const MOST_ROWS: u32 = 1024;
 
 // Why not every entry that waits was stored: force was refused, or the file did not take a row.
-#[derive(Drop)]
+#[derive(Clone, Copy)]
 pub enum Unstored {
     Refused(Refusal),
     File(std::io::Error),

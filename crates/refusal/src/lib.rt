@@ -1,7 +1,7 @@
 // What each call refuses with: the papers' table, each call's tests in their order, one after the other, so that a call leaves at the first
 // that holds. A function here changes nothing and is total: the calls ask it first. Calls that judge rows tell beside 7 what is wrong
 // with the lowest bad one.
-// Begin, abort and cut leave at a state that is not sound before they look at what they are lent: that is quicker there.
+// A call leaves at a state that is not sound before it looks at what it is lent.
 #![tactic(auto)]
 
 ghost use Rattle.std.specs.Prelude.{◌≡◌, [], ℕ, ◌-◌, ◌&&◌, ◌≤◌};

@@ -158,15 +158,16 @@ fn path(line: &[u8], name: Span) -> Option<&str> {
     std::str::from_utf8(line.get(name.from..name.to)?).ok()
 }
 
-fn opened(rt: HostRuntime, line: &[u8], name: Span, medium: &mut [u8]) -> Option<Session> {
-    Session::open(rt, path(line, name)?, medium).ok()
+fn opened(rt: HostRuntime, line: &[u8], name: Span) -> Option<Session> {
+    Session::open(rt, path(line, name)?).ok()
 }
 
 fn created(rt: HostRuntime, line: &[u8], name: Span) -> Option<Session> {
     Session::create(rt, path(line, name)?).ok()
 }
 
-// Open reads the file and starts recovery, which stores nothing. Where it fails, the session before it is kept.
+// Open reads the file and starts recovery, which stores nothing. Where it fails, the session before it is kept; else that one's file is closed
+// before this one's is read.
 fn open(
     rt: HostRuntime,
     session: &mut Option<Session>,
@@ -174,9 +175,11 @@ fn open(
     name: Span,
     desk: &mut Desk<'_>,
 ) -> bool {
-    let Some(mut next) = opened(rt, line, name, desk.medium) else {
+    let Some(mut next) = opened(rt, line, name) else {
         return reply::unopened();
     };
+    *session = None;
+    next.read(desk.medium);
     say::pair(b"bytes=", next.size as u64);
     let heard = call_with(rt, &mut next, Order::Call(Call::Start), desk);
     *session = Some(next);

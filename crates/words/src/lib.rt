@@ -31,7 +31,7 @@ pub enum Input {
 }
 
 // The byte at a place; 0 past the end.
-fn byte(s: &[u8], i: usize) -> u8
+pub fn byte(s: &[u8], i: usize) -> u8
     ensures { result ≡ get_or s.now i 0 }
 {
     s.get(i).copied().unwrap_or(0)

@@ -121,7 +121,7 @@ fn is_due(waiting: &[u8], slots: u32, cells: u32, m: u32, due: Due) -> bool
 
 // What is wrong with waiting row m, which must hold what is due.
 #[inline(never)]
-fn row_fault(waiting: &[u8], slots: u32, cells: u32, m: u32, due: Due) -> Option<Fault>
+pub fn row_fault(waiting: &[u8], slots: u32, cells: u32, m: u32, due: Due) -> Option<Fault>
     requires { Rows waiting.now 0 slots m }
     ensures { fault_of result ≡ fault_at m (wrong_due due waiting.now slots cells m) faultless }
 {
