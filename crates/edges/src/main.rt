@@ -15,14 +15,16 @@ fn open(what: &str) -> SmallDesk {
 fn one() {
     let mut desk = open("edge=1 begin");
     let mut medium = desk.medium;
-    let mut waiting = desk.waiting;
+    let mut rows = desk.medium;
     tell(
         "edge=1 commit with 176 waiting bytes",
-        desk.commit_on(&mut medium, &mut [0; 176]),
+        desk.commit_on(&mut medium, &mut rows),
     );
+    let mut short = desk.waiting;
+    let mut waiting = desk.waiting;
     tell(
         "edge=1 commit with a medium of 128 bytes",
-        desk.commit_on(&mut [0; 128], &mut waiting),
+        desk.commit_on(&mut short, &mut waiting),
     );
     tell(
         "edge=1 commit with 128 waiting bytes and a medium of 176",

@@ -145,11 +145,12 @@ fn note_done(call: Call, did: Did, book: &mut Book) {
     }
 }
 
-// At a store the plug is pulled, and each row is lost.
-fn stored(image: &Image, h: u32, f: u32, book: &mut Book) {
+// At a store the plug is pulled, and each row is lost. The state that its call handed back is one of this medium's N and C.
+fn stored(image: &Image, numbers: Numbers, f: u32, book: &mut Book) {
     book.stores.count();
+    book.judge(numbers.cells == image.cells && numbers.slots == image.slots);
     pull::pull(image, book);
-    wear::wear(image, h, f, book);
+    wear::wear(image, numbers.h, f, book);
 }
 
 // A call but commit made at most one store, where it says so, and none where it says so.
@@ -161,7 +162,8 @@ fn judge(before: &Image, image: &Image, did: Did, book: &mut Book) {
     };
     book.judge(stores < 2);
     book.judge(image.differs_within(before, place.at, place.size));
-    stored(image, did.state.numbers.h, did.state.numbers.f, book);
+    let numbers = did.state.numbers;
+    stored(image, numbers, numbers.f, book);
 }
 
 // A commit's rows, those of the entries after `from`, brought one by one to the medium before it: that is all that it stored.
@@ -171,7 +173,7 @@ fn judge_commit(mut before: Image, image: &Image, did: Did, from: u32, book: &mu
         for n in from..numbers.l {
             before.bring_row(image, n);
             book.forced(u64::from(n) + 1);
-            stored(&before, numbers.h, n + 1, book);
+            stored(&before, numbers, n + 1, book);
         }
     }
     book.judge(image.stores_since(&before) == 0);
