@@ -3,6 +3,7 @@
 use Prim.Native.Nat.{ℕ, zero, suc, ◌+◌, ◌≤◌, ◌<◌}
 use mathlib.Core.Path.{◌≡◌, refl, sym, ap, ◌∙◌}
 use mathlib.Core.Bool.{Bool, true, false}
+use mathlib.Core.Logic.{inl, inr}
 use mathlib.Core.List.{List, [], ◌++◌, append_assoc, append-nil}
 use native.Mathlib.Decide.{dec_le}
 use native.Mathlib.Omega.{arith}
@@ -23,12 +24,15 @@ use Rattle.std.specs.Result.{OkIff, result_err, result_unwrap_or}
 use Rattle.answer.specs.Answer as answers
 use Rattle.answer.specs.Answer.{number_of}
 use Rattle.answer.specs.declared.Refusal.{Refusal}
-use Rattle.answer.specs.declared.Refusal.TheVariants.{Unfit, NoCell}
+use Rattle.answer.specs.declared.Refusal.TheVariants.{Unfit, Malformed, NoTransaction, NoCell, Full, UsedUp, BadRow, NotStored, NotACut, WrongPhase, NoEntry, NoPart}
 use Rattle.answer.proofs.Refusals.{number-above}
 use Rattle.lines.specs.declared.Line.{Line}
 use Rattle.counter.specs.declared.Best.{Best}
 use Rattle.counter.specs.declared.Hand.{Hand}
-use Rattle.counter.specs.Counter.{in_table, span_refusal, cell_to_order, part_in_hand}
+use Rattle.counter.specs.declared.Hand.TheVariants as hand
+use Rattle.counter.specs.Claims.{OrderSays, OnMedium}
+use Rattle.counter.proofs.OnMedia.{order_on}
+use Rattle.counter.specs.Counter.{table_in, in_table, span_refusal, cell_to_order, part_in_hand}
 use Rattle.counter_text.specs.declared.Question.{Question}
 use Rattle.counter_text.specs.Screen.{number_in, unit, unit_with_part, if_given, asked, question, or_else, number_told, refused_or, hand_text, hand_line, answered, answer_text, refusal_for, screen_for, screen_text, least, lowest_of, count_of, part_of}
 
@@ -189,6 +193,51 @@ module _ (m : List ℕ) (l n : ℕ) (p : Option ℕ) where
     said_alone q = sym (append-nil t₁) ∙ said_then [] (sym (part_none q))
 
 pub ruleset answer_lines = (length-append, length_cell, answer_refused)
+
+-- THE MOST THAT IS SAID: 81 bytes, the three lines of a cell and that of a part in hand
+
+small_number : (r : Refusal) → number_of r < 4294967296
+small_number Unfit = omega arith
+small_number (Malformed f) = omega arith
+small_number NoTransaction = omega arith
+small_number NoCell = omega arith
+small_number Full = omega arith
+small_number UsedUp = omega arith
+small_number (BadRow f) = omega arith
+small_number NotStored = omega arith
+small_number NotACut = omega arith
+small_number WrongPhase = omega arith
+small_number NoEntry = omega arith
+small_number NoPart = omega arith
+
+refused_most : (r : Refusal) → length (line refused_key (number_of r)) ≤ 19
+refused_most r = length_line_32 refused_key (number_of r) (small_number r)
+
+hand_most : (h : Result Hand Refusal) → length (hand_text h) ≤ 19
+hand_most (Ok hand.ThatOne) = omega arith
+hand_most (Ok hand.Equal) = omega arith
+hand_most (Ok hand.Older) = omega arith
+hand_most (Ok hand.NotListed) = omega arith
+hand_most (Err r) = refused_most r
+
+module _ (m : List ℕ) (l n : ℕ) where
+  hand_line_most : (p : Option ℕ) → length (hand_line m l n p) ≤ 19
+  hand_line_most (Some x) = hand_most (part_in_hand m l n x)
+  hand_line_most None = omega arith
+
+  -- the cell to order is one of the table's
+  cell_small : (b : Best) → OnMedium m l n (OrderSays (table_in m) l n) (Ok b) → b.cell < 4294967296
+  cell_small b (inl (p, e)) = let z : ◌≡◌ {A = ℕ} 0 1 = cc in absurd (omega (arith, z))
+  cell_small b (inr (inl (p, k, e))) = let z : ◌≡◌ {A = ℕ} 0 1 = cc in absurd (omega (arith, z))
+  cell_small b (inr (inr (p, k, s))) = let h = (head_fits m true (sym p) refl).cells≤ in omega (arith, k, s.0.in_span.1)
+
+  pub answer_fits : (p : Option ℕ) → length (answer_text m l n p) ≤ 81
+  unfolding answer_text
+  answer_fits p = go (cell_to_order m l n) (order_on m l n)
+    where
+      go : (o : Result Best Refusal) → OnMedium m l n (OrderSays (table_in m) l n) o → length (answered o (hand_line m l n p)) ≤ 81
+      go (Ok b) s = omega (arith, length-append (cell_text b.cell b.value) (hand_line m l n p), length_cell b.cell b.value (cell_small b s), hand_line_most p)
+      go (Err r) s = omega (arith, refused_most r)
 
 -- one refusal, or the answers
 
