@@ -59,7 +59,7 @@ pub fn state_in(s: &[u32]) -> Option<State>
 }
 
 // The state put back as seven numbers, store by store: as an array copied it is first built in memory and then read in wider words, and read took
-// 1.4 to 1.8 times as long.
+// 1.3 to 1.8 times as long.
 #[inline(always)]
 pub fn put_state(s: &mut [u32], state: State)
     requires { length s.old ≡ 7 }

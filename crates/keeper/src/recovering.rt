@@ -28,6 +28,7 @@ const NO_STATE: State = State {
 impl State {
     // Recovery start: reads the entries that count and replays them over the table, undoing what has no end. `first` and `last` become
     // zero, waiting rows and medium keep their bytes, and nothing is stored. Refuses 1 and 2, with the state of zeros.
+    #[tactic(auto, unfolding(crate::specs::Answers::leaves, crate::specs::Answers::handed, state::specs::Lent::left))]
     pub fn recovery_start(
         medium: &[u8],
         current: &mut [u64],

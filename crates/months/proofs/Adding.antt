@@ -8,11 +8,12 @@ use native.Mathlib.Omega.{arith}
 use native.Mathlib.Numerals.{add-one}
 use borrow.Author.Tests.{lt-ltb, le-ltb, eqb-true, ltb-true, ltb-false, eq-eqb, ne_eqb}
 use lib.Dec.{ltb, eqb}
-use lib.ListN.{length, get_or, set, drop, replicate, length-append, length-set, drop_of_length-le}
+use lib.ListN.{length, get_or, set, take, drop, replicate, length-append, length-set, drop_of_length-le}
 use lib.Seq.{drop-cons, set-append_seam, get_or-append_seam}
 use Rattle.std.specs.Prelude.{Some, None, min, not, cond, map}
 use Rattle.std.specs.List.{position, position_or_len}
-use Rattle.std.proofs.lemmas.List.{set-append_left, get_or_append_left, get_or-map, map-set, map-append, length-map}
+use Rattle.std.proofs.Math.Seq.{take-set-lt}
+use Rattle.std.proofs.lemmas.List.{length-take, set-append_left, get_or_append_left, get_or-map, map-set, map-append, length-map}
 use Rattle.std.proofs.lemmas.List.Quantifiers.{position-Some}
 use Rattle.std.proofs.lemmas.Option.{none-some}
 use Rattle.std.proofs.lemmas.List.Sums.{prefix_len-le-length}
@@ -46,6 +47,10 @@ met_stays i met p = simp (lt-ltb i met p)
 pub met_grows : (i met : ℕ) → met ≤ i → i + 1 ≡ met_after i met
 unfolding met_after
 met_grows i met p = simp (le-ltb i met p)
+
+-- a place that is in use, written
+pub set_in_use : (n : ℕ) (xs : List Met) (i : ℕ) (x : Met) → i < length (take n xs) → take n (set xs i x) ≡ set (take n xs) i x
+set_in_use n xs i x h = take-set-lt n xs i x (omega (arith, h, length-take n xs))
 
 -- the place of a release
 

@@ -57,6 +57,7 @@ impl Releases {
     }
 
     // Another one, or another count, in a place that is in use.
+    #[tactic(auto, using(crate::proofs::Adding::set_in_use))]
     pub fn replace(&mut self, place: usize, met: Met)
         requires { place < length (in_use self.old) }
         ensures { in_use self.new ≡ set (in_use self.old) place met }
